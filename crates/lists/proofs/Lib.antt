@@ -1,0 +1,9 @@
+pub mod Choice
+pub mod Rising
+pub mod Parts
+pub mod Ranks
+pub mod Stores
+pub mod Members
+pub mod Gaps
+pub mod Below
+pub mod Bytes

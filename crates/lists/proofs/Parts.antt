@@ -1,0 +1,42 @@
+-- Laws of parts: `take`, `drop` and `part` of a list.
+-- Assumes nothing.
+use mathlib.Core.Path.{_≡_, sym, ap, _∙_}
+use mathlib.Core.List.{List, [], _∷_, _++_}
+use Prim.Native.Nat.{ℕ, suc, _+_, _-_, _≤_, _<_}
+use native.Mathlib.Omega.{arith}
+use native.Mathlib.Numerals.{add-one}
+use lib.ListN.{length, getD, take, drop, length-take, length-drop, length-append, take-append-drop}
+use lib.Seq.{drop-cons, drop-drop, take-all, take-at, drop-at}
+use Rattle.lists.specs.Parts.{part}
+
+module _ {X : Type 0} where
+  -- what `&s[a..]` holds
+  pub part-end : (s : List X) (a : ℕ) → part s a (length s) ≡ drop a s
+  part-end s a = take-all (length s - a) (drop a s) (omega (arith, length-drop a s))
+
+  pub length-part : (s : List X) (i j : ℕ) → i ≤ j → j ≤ length s → length (part s i j) ≡ j - i
+  length-part s i j h k = omega (arith, length-take (j - i) (drop i s), length-drop i s)
+
+  -- a part, and what follows it
+  pub part-drop : (s : List X) (i j : ℕ) → i ≤ j → part s i j ++ drop j s ≡ drop i s
+  part-drop s i j h =
+      let q : i + (j - i) ≡ j = omega arith in
+      ap (λ (n : ℕ). part s i j ++ drop n s) (sym q)
+      ∙ ap (λ (l : List X). part s i j ++ l) (sym (drop-drop (j - i) i s))
+      ∙ take-append-drop (j - i) (drop i s)
+
+  -- what stands from rank `i` on, where a run of `xs` and then `ys` stands there
+  pub drop-run : (s : List X) (i : ℕ) (xs ys : List X) → drop i s ≡ xs ++ ys → drop (i + length xs) s ≡ ys
+  drop-run s i xs ys e = sym (drop-drop (length xs) i s) ∙ ap (drop (length xs)) e ∙ drop-at xs ys (length xs) (λ t. length xs)
+
+  pub part-run : (s : List X) (i : ℕ) (xs ys : List X) → drop i s ≡ xs ++ ys → part s i (i + length xs) ≡ xs
+  part-run s i xs ys e =
+      let q : i + length xs - i ≡ length xs = omega arith in
+      ap (λ (n : ℕ). take n (drop i s)) q ∙ ap (take (length xs)) e ∙ take-at xs ys (length xs) (λ t. length xs)
+
+  pub length-run : (s : List X) (i : ℕ) (xs ys : List X) → i ≤ length s → drop i s ≡ xs ++ ys → length s ≡ i + length xs + length ys
+  length-run s i xs ys h e = omega (arith, length-drop i s, ap length e, length-append xs ys)
+
+  -- one element more
+  pub drop-one : (s : List X) (i : ℕ) (d : X) → i < length s → drop i s ≡ getD s i d ∷ drop (i + 1) s
+  drop-one s i d h = drop-cons s i d h ∙ ap (λ (n : ℕ). getD s i d ∷ drop n s) (sym (add-one i))

@@ -1,0 +1,11 @@
+-- `rules::most_steps` meets its contract: the constant is the largest number of steps. Assumes nothing.
+use mathlib.Core.Path.{sym}
+use Rattle.rules.specs.Limits.Values.{most-is}
+use Rattle.rules.proofs.most_steps.Statement.{statement}
+use Rattle.rules.proofs.most_steps.Tie as tie
+
+returns : tie.Need-returns
+returns c = sym most-is
+
+pub most-steps-spec : {M : Type 1} → statement M
+most-steps-spec = tie.close (tie.spec returns)
