@@ -63,7 +63,7 @@ returns c =
     let e = d .before .before in
     let a = e .before .before .before .args in (
       number-four (a .s .now) (a .at) (e .wide .result) (d .wide2 .result) (b .wide3 .result) (c .wide4 .result)
-      (omega arith) (e .wide .ensures .0) (d .wide2 .ensures .0) (b .wide3 .ensures .0) (c .wide4 .ensures .0),
+          (omega arith) (e .wide .ensures .0) (d .wide2 .ensures .0) (b .wide3 .ensures .0) (c .wide4 .ensures .0),
       omega arith,
     )
 
