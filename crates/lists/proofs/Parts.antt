@@ -1,8 +1,8 @@
 -- Laws of parts: `take`, `drop` and `part` of a list.
 -- Assumes nothing.
-use mathlib.Core.Path.{_≡_, sym, ap, _∙_}
+use mathlib.Core.Path.{_≡_, refl, sym, ap, _∙_}
 use mathlib.Core.List.{List, [], _∷_, _++_}
-use Prim.Native.Nat.{ℕ, suc, _+_, _-_, _≤_, _<_}
+use Prim.Native.Nat.{ℕ, zero, suc, _+_, _-_, _≤_, _<_}
 use native.Mathlib.Omega.{arith}
 use native.Mathlib.Numerals.{add-one}
 use lib.ListN.{length, getD, take, drop, length-take, length-drop, length-append, take-append-drop}
@@ -40,3 +40,20 @@ module _ {X : Type 0} where
   -- one element more
   pub drop-one : (s : List X) (i : ℕ) (d : X) → i < length s → drop i s ≡ getD s i d ∷ drop (i + 1) s
   drop-one s i d h = drop-cons s i d h ∙ ap (λ (n : ℕ). getD s i d ∷ drop n s) (sym (add-one i))
+
+  -- what stands at a rank, by whether it is the first
+  pub getD-here : {l : List X} {x : X} {xs : List X} (i : ℕ) (d : X) → l ≡ x ∷ xs → i ≡ 0 → getD l i d ≡ x
+  getD-here zero d e h = ap (λ (r : List X). getD r 0 d) e
+  getD-here (suc i) d e h = absurd (omega arith)
+
+  pub getD-past : {l : List X} {x : X} {xs : List X} (i : ℕ) (d : X) → l ≡ x ∷ xs → (i ≡ 0 → ⊥) → getD l i d ≡ getD xs (i - 1) d
+  getD-past zero d e h = absurd (h refl)
+  getD-past {l} {x} {xs} (suc i) d e h =
+      let q : i ≡ suc i - 1 = omega arith in
+      ap (λ (r : List X). getD r (suc i) d) e ∙ ap (λ (n : ℕ). getD xs n d) q
+
+  -- what stands for nothing does not matter where there is something
+  pub getD-within : (s : List X) (i : ℕ) (d e : X) → i < length s → getD s i d ≡ getD s i e
+  getD-within [] i d e h = absurd (omega arith)
+  getD-within (x ∷ s) zero d e h = refl
+  getD-within (x ∷ s) (suc i) d e h = getD-within s i d e (omega arith)

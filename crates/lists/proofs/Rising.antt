@@ -1,8 +1,8 @@
 -- Laws of rising lists: their end, their length, appending, and parts of them.
 -- Assumes nothing.
-use mathlib.Core.Path.{_≡_, refl, sym, _∙_}
-use mathlib.Core.List.{List, [], _∷_, _++_}
-use Prim.Native.Nat.{ℕ, zero, suc, _+_, _≤_, _<_}
+use mathlib.Core.Path.{_≡_, refl, sym, ap, _∙_}
+use mathlib.Core.List.{List, [], _∷_, _++_, map}
+use Prim.Native.Nat.{ℕ, zero, suc, _+_, _-_, _≤_, _<_}
 use native.Mathlib.Omega.{arith}
 use lib.ListN.{length, getD, take, drop}
 use Rattle.lists.specs.Rising.{Rising, beyond}
@@ -27,6 +27,26 @@ rising-none o (x ∷ xs) r h = absurd (omega (arith, rising-beyond (suc x) xs (r
 pub beyond-append : (o : ℕ) (xs ys : List ℕ) → beyond o (xs ++ ys) ≡ beyond (beyond o xs) ys
 beyond-append o [] ys = refl
 beyond-append o (x ∷ xs) ys = beyond-append (suc x) xs ys
+
+pub beyond-le : {o p : ℕ} (xs : List ℕ) → o ≤ p → beyond o xs ≤ beyond p xs
+beyond-le [] h = h
+beyond-le (x ∷ xs) h = omega arith
+
+-- a list with a last element
+pub beyond-last : (o : ℕ) (xs : List ℕ) → 0 < length xs → beyond o xs ≡ getD xs (length xs - 1) 0 + 1
+beyond-last o [] h = absurd (omega arith)
+beyond-last o (x ∷ []) h = omega arith
+beyond-last o (x ∷ y ∷ ys) h =
+    let p : suc (length ys) - 1 ≡ length ys = omega arith in
+    let q : suc (suc (length ys)) - 1 ≡ suc (length ys) = omega arith in
+    rw q (rw p at (beyond-last (suc x) (y ∷ ys) (omega arith)))
+
+-- a list that is moved up ends as much later
+pub beyond-map : (o p : ℕ) (xs : List ℕ) → beyond (o + p) (map (λ (x : ℕ). o + x) xs) ≡ o + beyond p xs
+beyond-map o p [] = refl
+beyond-map o p (x ∷ xs) =
+    let q : suc (o + x) ≡ o + suc x = omega arith in
+    ap (λ (p : ℕ). beyond p (map (λ (y : ℕ). o + y) xs)) q ∙ beyond-map o (suc x) xs
 
 -- where the whole ends, its last part ends too, or had room
 pub beyond-rest : (o n t : ℕ) (xs ys : List ℕ) → n ≤ t → beyond o (xs ++ ys) ≤ t → beyond n ys ≤ t

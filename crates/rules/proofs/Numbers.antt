@@ -4,7 +4,7 @@ use mathlib.Core.Path.{_≡_, refl, sym, ap, _∙_}
 use mathlib.Core.List.{List, [], _∷_, _++_}
 use Prim.Native.Nat.{ℕ, zero, suc, _+_, _-_, _*_, _/_, _%_, _^_, _≤_, _<_}
 use native.Mathlib.Omega.{arith}
-use native.Mathlib.Nat.{pow-suc, mul-comm}
+use native.Mathlib.Nat.{pow-suc, mul-comm, mul-assoc}
 use lib.ListN.{length, getD, take, drop, length-take, length-drop, length-append, take-append-drop}
 use lib.Seq.{drop-drop, take-at}
 use Rattle.lists.specs.Bytes.{Bytes, byteValues}
@@ -30,6 +30,15 @@ pub little-lt : (s : List ℕ) → Bytes s → little s < byteValues ^ length s
 unfolding little
 little-lt [] w = omega arith
 little-lt (b ∷ bs) w = omega (arith, pow-more (length bs), w 0, little-lt bs (λ i. w (suc i)))
+
+pub little-append : (s t : List ℕ) → little (s ++ t) ≡ little s + byteValues ^ length s * little t
+unfolding little
+little-append [] t = omega arith
+little-append (b ∷ bs) t =
+    let q : byteValues ^ suc (length bs) * little t ≡ byteValues * (byteValues ^ length bs * little t) =
+    ap (λ (n : ℕ). n * little t) (pow-more (length bs)) ∙ mul-assoc byteValues (byteValues ^ length bs) (little t)
+    in
+    omega (arith, little-append bs t)
 
 -- READING RETURNS WHAT WAS WRITTEN
 pub little-bytes : (k n : ℕ) → n < byteValues ^ k → little (littleBytes k n) ≡ n
