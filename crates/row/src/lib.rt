@@ -1,0 +1,288 @@
+// A bit row: bit j stands for step o + j, in byte j div 8, the lowest bit first. How many ones it has, where the last one is, the k-th one
+// of a byte, its steps put into a buffer, and the row of a rising list put into bytes. A byte, or eight of them, are one turn of a loop.
+
+ghost use mathlib.Core.Path.{_≡_};
+ghost use Prim.Native.Nat.{_+_, _-_, _*_, _^_, _≤_, _<_};
+ghost use lib.ListN.{length, getD, take, drop};
+ghost use lib.Seq.{sets};
+ghost use Rattle.lists.specs.Rising.{Rising, beyond};
+ghost use Rattle.lists.specs.Below.{below};
+ghost use Rattle.rules.specs.Numbers.{little};
+ghost use Rattle.row.specs.Row.{bitsFrom, rowSteps, bitsOf, rowSize, rowOf, kthOne};
+ghost use Rattle.row.specs.Words.{wordBytes, wordBits};
+
+const BYTE_BITS: usize = 8;
+
+// A word is eight bytes that are read at once.
+const WORD_BYTES: usize = 8;
+
+const WORD_BITS: usize = 64;
+
+// The values that half a word has.
+const HALF_VALUES: usize = 4294967296;
+
+// The word whose bits are all 1.
+const FULL: usize = 18446744073709551615;
+
+// A byte of a list's row, and the rank of the first step after it.
+struct Packed {
+    byte: usize,
+    next: usize,
+}
+
+// The word of eight bytes at a place, the lowest first.
+fn word_at(s: &[u8], at: usize) -> usize
+    requires { ⌜ at + wordBytes ≤ length (now s) ⌝ }
+    ensures { λ r. ⌜ r ≡ little (take wordBytes (drop at (now (s .entry)))) ⌝ }
+{
+    rules::number_at(s, at) + HALF_VALUES * rules::number_at(s, at + rules::NUMBER_SIZE)
+}
+
+// The word of the bytes from a place on, which are fewer than eight.
+fn last_word(s: &[u8], at: usize) -> usize
+    requires { ⌜ (at ≤ length (now s)) × (length (now s) < at + wordBytes) ⌝ }
+    ensures { λ r. ⌜ r ≡ little (drop at (now (s .entry))) ⌝ }
+{
+    let mut word: usize = 0;
+    let mut i = s.len();
+    while at < i {
+        i -= 1;
+        word = rules::wide(s[i]) + 256 * word;
+    }
+    word
+}
+
+// How many ones a word has.
+fn ones(word: usize) -> usize
+    ensures { λ r. ⌜ (r ≡ length (bitsFrom wordBits 0 word)) × (r ≤ wordBits) ⌝ }
+{
+    usize::count_ones(word) as usize
+}
+
+// How many ones some bytes have. The number of turns is known before the first, so that several words can be counted at once.
+fn ones_in(part: &[u8]) -> usize
+    requires { ⌜ length (now part) < 2 ^ 60 ⌝ }
+    ensures { λ r. ⌜ r ≡ length (rowSteps 0 (now (part .entry))) ⌝ }
+{
+    let whole = part.len() / WORD_BYTES * WORD_BYTES;
+    let mut i: usize = 0;
+    let mut total: usize = 0;
+    while i < whole {
+        total += ones(word_at(part, i));
+        i += WORD_BYTES;
+    }
+    total + ones(last_word(part, i))
+}
+
+// How many bytes a row of a span has.
+pub fn width(span: usize) -> usize
+    requires { ⌜ span < 2 ^ 32 ⌝ }
+    ensures { λ r. ⌜ r ≡ rowSize span ⌝ }
+{
+    (span + (BYTE_BITS - 1)) / BYTE_BITS
+}
+
+// How many ones a row has.
+pub fn count(part: &[u8]) -> usize
+    requires { ⌜ length (now part) < 2 ^ 32 ⌝ }
+    ensures { λ r. ⌜ r ≡ length (rowSteps 0 (now (part .entry))) ⌝ }
+{
+    ones_in(part)
+}
+
+// One past the last one of a row, in bits; 0 where there is none.
+pub fn end(part: &[u8]) -> usize
+    requires { ⌜ length (now part) < 2 ^ 32 ⌝ }
+    ensures { λ r. ⌜ r ≡ beyond 0 (rowSteps 0 (now (part .entry))) ⌝ }
+{
+    let mut i = part.len();
+    while 0 < i {
+        i -= 1;
+        let byte = rules::wide(part[i]);
+        if byte != 0 {
+            return BYTE_BITS * i + WORD_BITS - (usize::leading_zeros(byte) as usize);
+        }
+    }
+    0
+}
+
+// The place of the k-th one of a byte, counted from 0, or 8 where the byte has too few.
+pub fn kth(byte: usize, k: usize) -> usize
+    requires { ⌜ (byte < 256) × (k < 8) ⌝ }
+    ensures { λ r. ⌜ r ≡ kthOne byte k ⌝ }
+{
+    let mut at: usize = 0;
+    let mut bits = byte;
+    let mut left = k;
+    while at < BYTE_BITS {
+        let bit = bits % 2;
+        if left < bit {
+            return at;
+        }
+        left -= bit;
+        bits = bits / 2;
+        at += 1;
+    }
+    BYTE_BITS
+}
+
+// Puts the steps of a word without a zero, whose first bit stands for `from`, into a buffer from a place on, and gives the place after them.
+fn put_full(from: usize, out: &mut [u32], at: usize) -> usize
+    requires { ⌜ (from + wordBits ≤ 2 ^ 32) × (at + wordBits ≤ length (now out)) ⌝ }
+    ensures { λ r. ⌜ (r ≡ at + wordBits) × (now (out .exit) ≡ sets (now (out .entry)) at (bitsFrom wordBits from (2 ^ wordBits - 1))) ⌝ }
+{
+    let mut j: usize = 0;
+    while j < WORD_BITS {
+        out[at + j] = (from + j) as u32;
+        j += 1;
+    }
+    at + WORD_BITS
+}
+
+// Puts the steps of a word, whose first bit stands for `from`, into a buffer from a place on, one by one, and gives the place after them.
+fn put_ones(word: usize, from: usize, out: &mut [u32], at: usize) -> usize
+    requires { ⌜ (beyond from (bitsFrom wordBits from word) ≤ 2 ^ 32) × (at + length (bitsFrom wordBits from word) ≤ length (now out)) ⌝ }
+    ensures { λ r. ⌜ (r ≡ at + length (bitsFrom wordBits from word))
+        × (now (out .exit) ≡ sets (now (out .entry)) at (bitsFrom wordBits from word)) ⌝ }
+{
+    let mut bits = word;
+    let mut k = at;
+    while bits != 0 {
+        out[k] = (from + (usize::trailing_zeros(bits) as usize)) as u32;
+        k += 1;
+        bits = bits & (bits - 1);
+    }
+    k
+}
+
+// The same, and where no bit is 0 all steps at once.
+fn put_word(word: usize, from: usize, out: &mut [u32], at: usize) -> usize
+    requires { ⌜ (beyond from (bitsFrom wordBits from word) ≤ 2 ^ 32) × (at + length (bitsFrom wordBits from word) ≤ length (now out)) ⌝ }
+    ensures { λ r. ⌜ (r ≡ at + length (bitsFrom wordBits from word))
+        × (now (out .exit) ≡ sets (now (out .entry)) at (bitsFrom wordBits from word)) ⌝ }
+{
+    if word == FULL {
+        return put_full(from, out, at);
+    }
+    put_ones(word, from, out, at)
+}
+
+// Puts the steps of a row, whose first bit stands for `from`, into a buffer from a place on, and gives the place after them.
+pub fn steps(part: &[u8], from: usize, out: &mut [u32], at: usize) -> usize
+    requires { ⌜ (from + 8 * length (now part) ≤ 2 ^ 32) × (at + length (rowSteps from (now part)) ≤ length (now out)) ⌝ }
+    ensures { λ r. ⌜ (r ≡ at + length (rowSteps from (now (part .entry))))
+        × (now (out .exit) ≡ sets (now (out .entry)) at (rowSteps from (now (part .entry)))) ⌝ }
+{
+    let mut i: usize = 0;
+    let mut k = at;
+    while i + WORD_BYTES <= part.len() {
+        k = put_word(word_at(part, i), from + BYTE_BITS * i, out, k);
+        i += WORD_BYTES;
+    }
+    put_ones(last_word(part, i), from + BYTE_BITS * i, out, k)
+}
+
+// The byte with a one at a place.
+fn one_at(place: usize) -> usize
+    requires { ⌜ place < 8 ⌝ }
+    ensures { λ r. ⌜ (r ≡ 2 ^ place) × (r < 256) ⌝ }
+{
+    1 << place
+}
+
+// The byte of a list's row whose first bit stands for `o`; the first step at or after `o` has rank k.
+fn pack(list: &[u32], k: usize, o: usize) -> Packed
+    requires { ⌜ Rising 0 (now list) × ((k ≡ below (now list) o) × (o < 2 ^ 33)) ⌝ }
+    ensures { λ r. ⌜ (r .byte ≡ bitsOf 8 o (now (list .entry))) × (r .next ≡ below (now (list .entry)) (o + 8)) ⌝ }
+{
+    let mut byte: usize = 0;
+    let mut i = k;
+    while i < list.len() {
+        let x = list[i] as usize;
+        if x >= o + BYTE_BITS {
+            return Packed { byte, next: i };
+        }
+        byte += one_at(x - o);
+        i += 1;
+    }
+    Packed { byte, next: i }
+}
+
+// How many bytes the row of a rising list has.
+fn size(list: &[u32], from: u32) -> usize
+    requires { ⌜ Rising from (now list) ⌝ }
+    ensures { λ r. ⌜ (r ≡ length (rowOf from (now (list .entry)))) × (r ≤ 2 ^ 29) ⌝ }
+{
+    let n = list.len();
+    if n == 0 {
+        return 0;
+    }
+    ((list[n - 1] - from) as usize) / BYTE_BITS + 1
+}
+
+// Puts the row of a rising list, whose first bit stands for `from`, into bytes from a place on, and gives the place after it.
+pub fn put(list: &[u32], from: u32, out: &mut [u8], at: usize) -> usize
+    requires { ⌜ Rising from (now list) × (at + length (rowOf from (now list)) ≤ length (now out)) ⌝ }
+    ensures { λ r. ⌜ (r ≡ at + length (rowOf from (now (list .entry))))
+        × (now (out .exit) ≡ sets (now (out .entry)) at (rowOf from (now (list .entry)))) ⌝ }
+{
+    let bytes = size(list, from);
+    let start = from as usize;
+    let mut k: usize = 0;
+    let mut b: usize = 0;
+    while b < bytes {
+        let p = pack(list, k, start + BYTE_BITS * b);
+        out[at + b] = p.byte as u8;
+        k = p.next;
+        b += 1;
+    }
+    at + bytes
+}
+
+// The step at an index of what a row has from a byte on.
+fn step_from(part: &[u8], from: usize, at: usize, k: usize) -> usize
+    requires { ⌜ (from < 2 ^ 32) × ((length (now part) < 2 ^ 32) × (k < length (rowSteps (from + 8 * at) (drop at (now part))))) ⌝ }
+    ensures { λ r. ⌜ r ≡ getD (rowSteps (from + 8 * at) (drop at (now (part .entry)))) k 0 ⌝ }
+{
+    let mut i = at;
+    let mut left = k;
+    while i < part.len() {
+        let byte = rules::wide(part[i]);
+        let n = ones(byte);
+        if left < n {
+            return from + BYTE_BITS * i + kth(byte, left);
+        }
+        left -= n;
+        i += 1;
+    }
+    0
+}
+
+// The step at an index of a row.
+pub fn step_at(part: &[u8], from: usize, k: usize) -> usize
+    requires { ⌜ (from < 2 ^ 32) × ((length (now part) < 2 ^ 32) × (k < length (rowSteps from (now part)))) ⌝ }
+    ensures { λ r. ⌜ r ≡ getD (rowSteps from (now (part .entry))) k 0 ⌝ }
+{
+    let mut i: usize = 0;
+    let mut left = k;
+    while i + WORD_BYTES <= part.len() {
+        let n = ones(word_at(part, i));
+        if left < n {
+            return step_from(part, from, i, left);
+        }
+        left -= n;
+        i += WORD_BYTES;
+    }
+    step_from(part, from, i, left)
+}
+
+// How many steps of a row stand before the first at or after x, which lies within the row.
+pub fn below_in(part: &[u8], from: usize, x: usize) -> usize
+    requires { ⌜ (from ≤ x) × ((x < from + 8 * length (now part)) × (from + 8 * length (now part) ≤ 2 ^ 40)) ⌝ }
+    ensures { λ r. ⌜ r ≡ below (rowSteps from (now (part .entry))) x ⌝ }
+{
+    let place = x - from;
+    let whole = place / BYTE_BITS;
+    let low = one_at(place % BYTE_BITS) - 1;
+    ones_in(&part[..whole]) + ones(rules::wide(part[whole]) & low)
+}
