@@ -1,0 +1,4 @@
+pub mod Entry
+pub mod Grammar
+pub mod Block
+pub mod Verdict
