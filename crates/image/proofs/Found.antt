@@ -45,7 +45,7 @@ module _ (o top : ℕ) (part : List ℕ) where
   module _ (h : length part ≡ rowSize (top - o)) where
     pub row-past : top < beyond o (rowSteps o part) → inRow o top part ≡ wrong badRow
     unfolding inRow
-    row-past k = rw (eq-eqb (length part) (rowSize (top - o)) h, lt-leb (beyond o (rowSteps o part)) top k)
+    row-past k = rw (eq-eqb (length part) (rowSize (top - o)) h) (pick-no _ _ _ (lt-leb (beyond o (rowSteps o part)) top k))
 
     pub row-within : beyond o (rowSteps o part) ≤ top → inRow o top part ≡ steps (rowSteps o part)
     unfolding inRow
