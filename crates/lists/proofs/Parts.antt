@@ -6,7 +6,7 @@ use Prim.Native.Nat.{ℕ, zero, suc, _+_, _-_, _≤_, _<_}
 use native.Mathlib.Omega.{arith}
 use native.Mathlib.Numerals.{add-one}
 use lib.ListN.{length, getD, take, drop, length-take, length-drop, length-append, take-append-drop}
-use lib.Seq.{drop-cons, drop-drop, take-all, take-at, drop-at}
+use lib.Seq.{drop-cons, drop-drop, take-add, take-all, take-at, drop-at}
 use Rattle.lists.specs.Parts.{part}
 
 module _ {X : Type 0} where
@@ -24,6 +24,21 @@ module _ {X : Type 0} where
       ap (λ (n : ℕ). part s i j ++ drop n s) (sym q)
       ∙ ap (λ (l : List X). part s i j ++ l) (sym (drop-drop (j - i) i s))
       ∙ take-append-drop (j - i) (drop i s)
+
+  -- two parts of which one follows the other
+  pub part-append : (s : List X) (i j k : ℕ) → i ≤ j → j ≤ k → part s i j ++ part s j k ≡ part s i k
+  part-append s i j k h g =
+      let p : i + (j - i) ≡ j = omega arith in
+      let q : j - i + (k - j) ≡ k - i = omega arith in
+      ap (λ (n : ℕ). part s i j ++ take (k - j) (drop n s)) (sym p)
+      ∙ ap (λ (l : List X). part s i j ++ take (k - j) l) (sym (drop-drop (j - i) i s))
+      ∙ sym (take-add (j - i) (k - j) (drop i s))
+      ∙ ap (λ (n : ℕ). take n (drop i s)) q
+
+  pub part-one : (s : List X) (i : ℕ) (d : X) → i < length s → part s i (i + 1) ≡ getD s i d ∷ []
+  part-one s i d h =
+      let q : i + 1 - i ≡ suc 0 = omega arith in
+      ap (λ (n : ℕ). take n (drop i s)) q ∙ ap (take (suc 0)) (drop-cons s i d h)
 
   -- what stands from rank `i` on, where a run of `xs` and then `ys` stands there
   pub drop-run : (s : List X) (i : ℕ) (xs ys : List X) → drop i s ≡ xs ++ ys → drop (i + length xs) s ≡ ys

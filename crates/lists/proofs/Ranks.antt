@@ -18,6 +18,9 @@ module _ (xs : List ℕ) where
       let e : suc i - 1 ≡ i = omega arith in
       ap (λ (u : ℕ). getD xs u 0 + 1) (sym e)
 
+  pub past-next : (i : ℕ) → past xs (i + 1) ≡ getD xs i 0 + 1
+  past-next i = ap (past xs) (add-one i)
+
   past-take : (k i : ℕ) → i + k ≤ length xs → beyond (past xs i) (take k (drop i xs)) ≡ past xs (i + k)
   past-take zero i h = let z : i ≡ i + 0 = omega arith in ap (past xs) z
   past-take (suc k) i h =
