@@ -1,0 +1,4 @@
+pub mod Cost
+pub mod Ahead
+pub mod Planned
+pub mod Work
