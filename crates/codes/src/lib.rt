@@ -24,6 +24,12 @@ struct Coded {
     after: usize,
 }
 
+// A step of a block with its index there.
+pub struct Indexed {
+    pub step: usize,
+    pub index: usize,
+}
+
 // Checks a block whose first step is at least `from`.
 pub fn check(part: &[u8], from: usize) -> Tally
     requires { ⌜ (from < 2 ^ 32) × (length (now part) < 2 ^ 32) ⌝ }
@@ -105,24 +111,36 @@ pub fn step_at(part: &[u8], from: usize, k: usize) -> usize
     0
 }
 
+// The first step of a block that was checked at or after x, with its index; where there is none, 0 and the number of steps.
+pub fn first_in(part: &[u8], from: usize, x: usize) -> Indexed
+    requires { ⌜ Sound from (stepsFrom from (now part) 0) ⌝ }
+    ensures { λ r. ⌜ (r .index ≡ below (listOf (stepsFrom from (now (part .entry)) 0)) x)
+        × (r .step ≡ getD (listOf (stepsFrom from (now (part .entry)) 0)) (r .index) 0) ⌝ }
+{
+    let mut at: usize = 0;
+    let mut next = from;
+    let mut index: usize = 0;
+    while at < part.len() {
+        let c = next_step(part, at, next);
+        if x <= c.step {
+            return Indexed {
+                step: c.step,
+                index,
+            };
+        }
+        index += 1;
+        next = c.step + 1;
+        at = c.after;
+    }
+    Indexed { step: 0, index }
+}
+
 // How many steps of a block that was checked stand before the first at or after x.
 pub fn below_in(part: &[u8], from: usize, x: usize) -> usize
     requires { ⌜ Sound from (stepsFrom from (now part) 0) ⌝ }
     ensures { λ r. ⌜ r ≡ below (listOf (stepsFrom from (now (part .entry)) 0)) x ⌝ }
 {
-    let mut at: usize = 0;
-    let mut next = from;
-    let mut count: usize = 0;
-    while at < part.len() {
-        let c = next_step(part, at, next);
-        if x <= c.step {
-            return count;
-        }
-        count += 1;
-        next = c.step + 1;
-        at = c.after;
-    }
-    count
+    first_in(part, from, x).index
 }
 
 // Puts the codes of a rising list that begins at `from` at the earliest into bytes from a place on, and gives the place after them.

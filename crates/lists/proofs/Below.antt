@@ -97,3 +97,19 @@ below-split [] x y h = rw (below-nil x) (omega arith)
 below-split (z ∷ zs) x y h =
     reach x z (λ g. rw (below-here z zs x g) (omega arith))
     (λ g. rw (below-past z zs x g, below-past z zs y (omega arith)) (omega (arith, below-split zs x y h)))
+
+-- ---- from any rank on: up to the bound, and past it
+
+pub below-drop : (xs : List ℕ) (k x : ℕ) → k ≤ below xs x → k + below (drop k xs) x ≡ below xs x
+below-drop xs zero x h = omega arith
+below-drop [] (suc k) x h = absurd (omega (arith, below-nil x))
+below-drop (y ∷ ys) (suc k) x h =
+    reach x y (λ g. absurd (omega (arith, below-here y ys x g)))
+    (λ g. omega (arith, below-past y ys x g, below-drop ys k x (omega (arith, below-past y ys x g))))
+
+pub below-drop-none : (o : ℕ) (xs : List ℕ) (k x : ℕ) → Rising o xs → below xs x ≤ k → below (drop k xs) x ≡ 0
+below-drop-none o xs zero x u h = omega arith
+below-drop-none o [] (suc k) x u h = below-nil x
+below-drop-none o (y ∷ ys) (suc k) x u h =
+    reach x y (λ g. below-drop-none (suc y) ys k x (u .1) (omega (arith, below-none (suc y) ys x (u .1) (omega arith))))
+    (λ g. below-drop-none (suc y) ys k x (u .1) (omega (arith, below-past y ys x g)))

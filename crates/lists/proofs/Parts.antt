@@ -6,7 +6,7 @@ use Prim.Native.Nat.{ℕ, zero, suc, _+_, _-_, _≤_, _<_}
 use native.Mathlib.Omega.{arith}
 use native.Mathlib.Numerals.{add-one}
 use lib.ListN.{length, getD, take, drop, length-take, length-drop, length-append, take-append-drop}
-use lib.Seq.{drop-cons, drop-drop, take-add, take-all, take-at, drop-at}
+use lib.Seq.{drop-cons, drop-drop, take-add, take-all, take-at, drop-at, getD-drop}
 use Rattle.lists.specs.Parts.{part}
 
 module _ {X : Type 0} where
@@ -55,6 +55,12 @@ module _ {X : Type 0} where
   -- one element more
   pub drop-one : (s : List X) (i : ℕ) (d : X) → i < length s → drop i s ≡ getD s i d ∷ drop (i + 1) s
   drop-one s i d h = drop-cons s i d h ∙ ap (λ (n : ℕ). getD s i d ∷ drop n s) (sym (add-one i))
+
+  -- what stands at a rank is the first of what is left from there on
+  pub getD-first : (s : List X) (i : ℕ) (d : X) → getD s i d ≡ getD (drop i s) 0 d
+  getD-first s i d =
+      let z : i ≡ i + 0 = omega arith in
+      ap (λ (n : ℕ). getD s n d) z ∙ sym (getD-drop i s 0 d)
 
   -- what stands at a rank, by whether it is the first
   pub getD-here : {l : List X} {x : X} {xs : List X} (i : ℕ) (d : X) → l ≡ x ∷ xs → i ≡ 0 → getD l i d ≡ x

@@ -15,7 +15,7 @@ use Rattle.lists.specs.Bytes.{byteValues}
 use Rattle.lists.proofs.Choice.{by-lt}
 use Rattle.lists.proofs.Parts.{getD-within}
 use Rattle.lists.proofs.Rising.{rising-getD-below, beyond-append}
-use Rattle.lists.proofs.Below.{below-append}
+use Rattle.lists.proofs.Below.{below-append, below-reach}
 use Rattle.row.specs.Row.{byteBits, bitsFrom, rowSteps, kthOne}
 use Rattle.row.specs.Words.{wordBits}
 use Rattle.row.proofs.Bits.{bits-none, bits-odd, bits-even, bits-zero, by-bit, bits-moved, rising-bits, beyond-bits, length-bits-moved, length-bits-low, below-bits, beyond-highest}
@@ -144,14 +144,29 @@ below-row o s i t b x h l e q =
     in
     omega (arith, length-row-moved o (take i s), length-bits-moved t p b)
 
--- the whole bytes before it, and the lowest bits of its own: a one at its bit, less 1, keeps these
-pub below-whole : (o : ℕ) (s : List ℕ) (x b p m n : ℕ) → o ≤ x → x < o + byteBits * length s → b ≡ getD s ((x - o) / byteBits) 0
-    → p ≡ 2 ^ ((x - o) % byteBits) → m ≡ length (rowSteps 0 (take ((x - o) / byteBits) s)) → n ≡ length (bitsFrom wordBits 0 (bitAnd b (p - 1)))
-    → m + n ≡ below (rowSteps o s) x
-below-whole o s x b p m n h l eb ep em en =
-    let t : ℕ = (x - o) % byteBits in
+-- the lowest bits of its byte: a one at its bit, less 1, keeps these
+pub ones-masked : (b t p n : ℕ) → t ≤ byteBits → p ≡ 2 ^ t → n ≡ length (bitsFrom wordBits 0 (bitAnd b (p - 1))) → n ≡ length (bitsFrom t 0 b)
+ones-masked b t p n h ep en =
     let mask : bitAnd b (p - 1) ≡ b % 2 ^ t = ap (λ (q : ℕ). bitAnd b (q - 1)) ep ∙ and-mask b t in
-    let low : n ≡ length (bitsFrom t 0 b) =
     en ∙ ap (λ (v : ℕ). length (bitsFrom wordBits 0 v)) mask ∙ sym (length-bits-low t wordBits 0 b (omega arith))
-    in
-    omega (arith, below-row o s ((x - o) / byteBits) t b x (omega arith) (omega arith) eb (omega arith))
+
+module _ (o : ℕ) (s : List ℕ) (x : ℕ) (h : o ≤ x) where
+  -- the whole bytes before it, and the lowest bits of its own
+  pub below-whole : (m n : ℕ) → x < o + byteBits * length s → m ≡ length (rowSteps 0 (take ((x - o) / byteBits) s))
+      → n ≡ length (bitsFrom ((x - o) % byteBits) 0 (getD s ((x - o) / byteBits) 0))
+      → m + n ≡ below (rowSteps o s) x
+  below-whole m n l em en =
+      omega (
+        arith,
+        below-row o s ((x - o) / byteBits) ((x - o) % byteBits) (getD s ((x - o) / byteBits) 0) x (omega arith) (omega arith) refl (omega arith),
+      )
+
+  -- a bound that some step reaches
+  pub bound-within : below (rowSteps o s) x < length (rowSteps o s) → x < o + byteBits * length s
+  bound-within l =
+      omega (
+        arith,
+        below-reach (rowSteps o s) x l,
+        rising-getD-below o (rowSteps o s) (below (rowSteps o s) x) (rising-row o s) l,
+        beyond-row-most o s,
+      )

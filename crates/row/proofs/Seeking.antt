@@ -2,18 +2,19 @@
 -- Assumes nothing.
 use mathlib.Core.Path.{_≡_, refl, sym, ap, _∙_, subst}
 use mathlib.Core.List.{List, [], _++_}
-use Prim.Native.Nat.{ℕ, _+_, _-_, _*_, _≤_, _<_}
+use Prim.Native.Nat.{ℕ, _+_, _-_, _*_, _/_, _%_, _≤_, _<_}
 use native.Mathlib.Omega.{arith}
 use lib.ListN.{length, getD, take, drop, length-append, List·getD-append}
 use lib.Seq.{getD-append-add}
+use Rattle.lists.specs.Below.{below}
 use Rattle.lists.specs.Bytes.{Bytes, byteValues}
 use Rattle.rules.specs.Numbers.{little}
 use Rattle.row.specs.Row.{byteBits, bitsFrom, rowSteps, kthOne}
 use Rattle.row.specs.Words.{wordBytes, wordBits}
 use Rattle.row.proofs.Bits.{length-bits-moved, length-bits-most, length-bits-wide}
-use Rattle.row.proofs.Row.{rowLeft, row-start, row-turn, row-end}
+use Rattle.row.proofs.Row.{rowLeft, row-start, row-split, row-turn, row-end, length-row-moved}
 use Rattle.row.proofs.Words.{row-word}
-use Rattle.row.proofs.Places.{getD-bits}
+use Rattle.row.proofs.Places.{getD-bits, below-whole, bound-within}
 
 -- what stands at index `k` of xs stands at index `j` of ys
 pub record Seeking (xs : List ℕ) (k : ℕ) (ys : List ℕ) (j : ℕ) : Type 0 where
@@ -79,3 +80,17 @@ module _ {xs : List ℕ} {k : ℕ} (o : ℕ) (s : List ℕ) (i : ℕ) {j : ℕ} 
   seeking-word-past w v n h e c f =
       seeking-past g (bitsFrom wordBits (o + byteBits * i) v) (rowLeft o s (i + wordBytes)) n (row-word o s w i v h e)
       (c ∙ sym (length-bits-moved wordBits (o + byteBits * i) v)) f
+
+-- the first step at or after x, in the byte that x falls into, where `n` ones stand before it
+pub seeking-bound : (o : ℕ) (s : List ℕ) (x n : ℕ) → o ≤ x → below (rowSteps o s) x < length (rowSteps o s)
+    → n ≡ length (bitsFrom ((x - o) % byteBits) 0 (getD s ((x - o) / byteBits) 0))
+    → Seeking (rowSteps o s) (below (rowSteps o s) x) (rowLeft o s ((x - o) / byteBits)) n
+seeking-bound o s x n h l e =
+    let i : ℕ = (x - o) / byteBits in
+    let k : ℕ = below (rowSteps o s) x in
+    let w = bound-within o s x h l in
+    let m : length (rowSteps o (take i s)) + n ≡ k = below-whole o s x h _ n w (length-row-moved o (take i s)) e in
+    let q : k - length (rowSteps o (take i s)) ≡ n = omega arith in
+    subst (Seeking (rowSteps o s) k (rowLeft o s i)) q
+    (seeking-past (seeking-start (rowSteps o s) k l) (rowSteps o (take i s)) (rowLeft o s i) (length (rowSteps o (take i s)))
+    (row-split o s i (omega arith)) refl (omega arith))

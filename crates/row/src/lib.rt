@@ -2,7 +2,7 @@
 // of a byte, its steps put into a buffer, and the row of a rising list put into bytes. A byte, or eight of them, are one turn of a loop.
 
 ghost use mathlib.Core.Path.{_≡_};
-ghost use Prim.Native.Nat.{_+_, _-_, _*_, _^_, _≤_, _<_};
+ghost use Prim.Native.Nat.{_+_, _-_, _*_, _/_, _%_, _^_, _≤_, _<_};
 ghost use lib.ListN.{length, getD, take, drop};
 ghost use lib.Seq.{sets};
 ghost use Rattle.lists.specs.Rising.{Rising, beyond};
@@ -276,13 +276,30 @@ pub fn step_at(part: &[u8], from: usize, k: usize) -> usize
     step_from(part, from, i, left)
 }
 
+// How many ones of the byte that holds a place stand before it.
+fn ones_under(part: &[u8], place: usize) -> usize
+    requires { ⌜ place < 8 * length (now part) ⌝ }
+    ensures { λ r. ⌜ (r ≡ length (bitsFrom (place % 8) 0 (getD (now (part .entry)) (place / 8) 0))) × (r ≤ 64) ⌝ }
+{
+    let low = one_at(place % BYTE_BITS) - 1;
+    ones(rules::wide(part[place / BYTE_BITS]) & low)
+}
+
 // How many steps of a row stand before the first at or after x, which lies within the row.
 pub fn below_in(part: &[u8], from: usize, x: usize) -> usize
     requires { ⌜ (from ≤ x) × ((x < from + 8 * length (now part)) × (from + 8 * length (now part) ≤ 2 ^ 40)) ⌝ }
     ensures { λ r. ⌜ r ≡ below (rowSteps from (now (part .entry))) x ⌝ }
 {
     let place = x - from;
-    let whole = place / BYTE_BITS;
-    let low = one_at(place % BYTE_BITS) - 1;
-    ones_in(&part[..whole]) + ones(rules::wide(part[whole]) & low)
+    ones_in(&part[..place / BYTE_BITS]) + ones_under(part, place)
+}
+
+// The first step of a row at or after x, of which there is one: the row is read from x on.
+pub fn first_at(part: &[u8], from: usize, x: usize) -> usize
+    requires { ⌜ (from ≤ x) × ((from < 2 ^ 32) × ((length (now part) < 2 ^ 32)
+        × (below (rowSteps from (now part)) x < length (rowSteps from (now part))))) ⌝ }
+    ensures { λ r. ⌜ r ≡ getD (rowSteps from (now (part .entry))) (below (rowSteps from (now (part .entry))) x) 0 ⌝ }
+{
+    let place = x - from;
+    step_from(part, from, place / BYTE_BITS, ones_under(part, place))
 }

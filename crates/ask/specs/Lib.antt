@@ -1,0 +1,4 @@
+pub mod Search
+pub mod Rank
+pub mod First
+pub mod Cursor

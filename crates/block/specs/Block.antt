@@ -1,0 +1,33 @@
+-- One block that was checked, as a list of steps, and what is asked of it.
+use mathlib.Core.Path.{_≡_}
+use mathlib.Core.List.{List, []}
+use Prim.Native.Nat.{ℕ, _-_, _^_, _≤_, _<_}
+use lib.ListN.{length, getD}
+use Rattle.lists.specs.Below.{below}
+use Rattle.rules.specs.Limits.{largestStep}
+use Rattle.image.specs.declared.Entry.{Entry}
+use Rattle.image.specs.declared.Before.{Before}
+use Rattle.image.specs.Block.{Found, steps, wrong, blockOf}
+
+-- the steps that were found, where a block has them
+abbrev pub stepsOf : Found → List ℕ
+stepsOf (steps xs) = xs
+stepsOf (wrong n) = []
+
+-- the steps of the block of an entry, after `b`, in its part of the payload
+abbrev pub stepsIn : Before → Entry → List ℕ → List ℕ
+stepsIn b e part = stepsOf (blockOf b e part)
+
+-- a block that passed its checks, and what the directory says of it
+pub record Sound (b : Before) (e : Entry) (part : List ℕ) : Type 0 where
+  pub good : blockOf b e part ≡ steps (stepsIn b e part)
+  pub next : b .next ≤ e .last
+  pub last : e .last ≤ largestStep
+  pub size : length part < 2 ^ 32
+
+-- the first step of a block at or after x, with its index: as many steps stand before it as are below x
+pub record FirstIn (b : Before) (e : Entry) (part : List ℕ) (x step index : ℕ) : Type 0 where
+  pub which : index ≡ below (stepsIn b e part) x
+  pub is : step ≡ getD (stepsIn b e part) index 0
+  pub within : index < e .upto - b .upto
+  pub small : step ≤ e .last

@@ -1,0 +1,22 @@
+-- The promise of an operation on two images decides its answer and what every lent buffer then holds; and where it accepts, it is a link of
+-- a chain.
+-- Assumes nothing.
+use mathlib.Core.Path.{_≡_, refl, sym, ap, _∙_}
+use mathlib.Core.List.{List}
+use Prim.Native.Nat.{ℕ}
+use lib.ListN.{length}
+use Rattle.write.specs.declared.Counted.{Counted}
+use Rattle.write.proofs.Decides.{paper-one}
+use Rattle.pair.specs.declared.Operation.{Operation}
+use Rattle.pair.specs.Promise.{Promise}
+
+-- TWO OUTCOMES THAT THE PROMISE ALLOWS ARE EQUAL
+pub pair-decides : {op : Operation} {first second steps work out : List ℕ} (a b : Counted) {s t v w p q : List ℕ}
+    → Promise op first second steps work out a s v p → Promise op first second steps work out b t w q
+    → (a ≡ b) × (s ≡ t) × (v ≡ w) × (p ≡ q)
+pair-decides a b x y = (
+  paper-one a b (x .answers ∙ sym (y .answers)),
+  x .stores ∙ sym (y .stores),
+  x .works ∙ sym (y .works),
+  x .outputs ∙ sym (y .outputs),
+)

@@ -1,0 +1,4 @@
+pub mod Result
+pub mod Merge
+pub mod Promise
+pub mod Chain

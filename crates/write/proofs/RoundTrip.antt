@@ -1,0 +1,65 @@
+-- THE ROUND TRIP: where writing accepts a list, it is one of document 01's, and what then stands at the front of the output is an image that
+-- stands for it.
+-- Assumes nothing.
+use mathlib.Core.Path.{_≡_, refl, ap, _∙_}
+use mathlib.Core.List.{List}
+use Prim.Native.Nat.{ℕ}
+use lib.ListN.{length, getD, take}
+use lib.Seq.{take-at}
+use Rattle.lists.proofs.Choice.{by-lt}
+use Rattle.rules.specs.Limits.{mostSteps}
+use Rattle.rules.specs.Sizes.{workFor}
+use Rattle.rules.specs.Listed.{Listed}
+use Rattle.rules.proofs.Paper.{paper-apart, paper-values}
+use Rattle.image.specs.Verdict.{taken, verdict}
+use Rattle.write.specs.declared.Counted.the-variants.{Accepted}
+use Rattle.write.specs.Written.{Written, imageFor}
+use Rattle.write.specs.Faults.{firstAbove, firstFall}
+use Rattle.write.specs.Promise.{values, refused, placed, outcome, answer, outAfter, Promise}
+use Rattle.write.proofs.Faults.{faultless-listed}
+use Rattle.write.proofs.Written.{written-some, written-taken}
+use Rattle.write.proofs.Outcomes.{outcome-many, outcome-above, outcome-fall, outcome-work, outcome-unplaced, outcome-placed}
+
+-- a list that was written in `s` bytes at the front of an output
+pub record Placed (xs : List ℕ) (n s : ℕ) (out : List ℕ) : Type 0 where
+  pub listed : Listed xs
+  pub steps : n ≡ length xs
+  pub written : Written xs (take s out)
+
+module _ {xs work out : List ℕ} {n s : ℕ} {work′ out′ : List ℕ} (p : Promise xs work out (Accepted n s) work′ out′) where
+  refuses : {X : Type 0} {k q : ℕ} → outcome xs (length work) (length out) ≡ refused k q → X
+  refuses e = paper-apart values (p .answers ∙ ap (answer xs) e)
+
+  listed : Listed xs
+  listed =
+      by-lt mostSteps (length xs) (λ h. refuses (outcome-many xs (length work) (length out) h))
+      (λ few. by-lt (firstAbove xs) (length xs) (λ h. refuses (outcome-above xs (length work) (length out) few h))
+      (λ a. by-lt (firstFall xs) (length xs) (λ h. refuses (outcome-fall xs (length work) (length out) few a h))
+      (λ f. faultless-listed xs few a f)))
+
+  is-placed : outcome xs (length work) (length out) ≡ placed
+  is-placed =
+      by-lt (length work) (workFor (length xs)) (λ h. refuses (outcome-work xs (length work) (length out) listed h))
+      (λ r. by-lt (length out) (length (imageFor xs))
+      (λ h. paper-apart values (p .answers ∙ ap (answer xs) (outcome-unplaced xs (length work) (length out) listed r h)))
+      (λ h. outcome-placed xs (length work) (length out) listed r h))
+
+  -- what acceptance says
+  pub accepted-placed : Placed xs n s out′
+  accepted-placed =
+      let v = paper-values (p .answers ∙ ap (answer xs) is-placed) in
+      let e : s ≡ length (imageFor xs) = ap (λ (l : List ℕ). getD l 1 0) v in
+      let q : take s out′ ≡ imageFor xs =
+      ap (λ (k : ℕ). take k out′) e
+      ∙ ap (take (length (imageFor xs))) (p .outputs ∙ ap (outAfter xs out) is-placed)
+      ∙ take-at (imageFor xs) _ (length (imageFor xs)) refl
+      in
+      record {
+        listed = listed;
+        steps = ap (λ (l : List ℕ). getD l 0 0) v;
+        written = rw q (written-some xs);
+      }
+
+  -- WHAT WAS WRITTEN STANDS FOR THE LIST
+  pub round-trip : verdict (take s out′) ≡ taken xs
+  round-trip = written-taken (accepted-placed .written) listed

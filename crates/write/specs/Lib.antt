@@ -1,0 +1,4 @@
+pub mod Written
+pub mod Faults
+pub mod Blocks
+pub mod Promise
