@@ -172,10 +172,9 @@ fn first_in(image: &[u8], x: usize) -> First
         Spot::Block { before, entry } => {
             let part = part_of(image, before, entry);
             let f = block::first_in(part, before, entry, x);
-            First::Found(Hit {
-                step: f.step as u32,
-                rank: (before.upto + f.index) as u32,
-            })
+            let step = f.step as u32;
+            let rank = (before.upto + f.index) as u32;
+            First::Found(Hit { step, rank })
         }
         Spot::Nowhere => First::Nothing,
     }
@@ -235,9 +234,11 @@ impl Cursor {
                 if steps == k {
                     return Next::End(self);
                 }
+                let step = step_at(image, k as usize) as u32;
+                let rank = k + 1;
                 Next::Step(Move {
-                    step: step_at(image, k as usize) as u32,
-                    cursor: Cursor { rank: k + 1 },
+                    step,
+                    cursor: Cursor { rank },
                 })
             }
         }

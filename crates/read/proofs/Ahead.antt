@@ -1,4 +1,5 @@
--- A loop over the entries of a directory that was checked: each entry that it meets is clean, and so its block lies within the payload.
+-- A loop over the entries of a directory that was checked: each entry that it meets is clean, so its block lies within the payload, and
+-- where the blocks are taken the block is good.
 -- Assumes nothing.
 use mathlib.Core.Path.{_≡_, sym, ap, _∙_}
 use mathlib.Core.List.{List}
@@ -12,10 +13,11 @@ use Rattle.image.specs.declared.Entry.{Entry}
 use Rattle.image.specs.declared.Before.{Before}
 use Rattle.image.specs.declared.Fault.the-variants.{Fine}
 use Rattle.image.specs.Entry.{entryPlace, entryAt, entriesAt, start, afterEntry}
-use Rattle.image.specs.Verdict.{directoryOf}
+use Rattle.image.specs.Verdict.{Verdict, taken, directoryOf, blocksOf}
 use Rattle.image.proofs.Entries.{entries-here}
 use Rattle.image.proofs.Directory.{Clean, directory-clean}
-use Rattle.read.specs.Inside.{Fitting, Sound}
+use Rattle.image.proofs.Blocks.{Split, split}
+use Rattle.read.specs.Inside.{listIn, Takes, Fitting, Sound}
 
 -- the entries from number `i` on
 abbrev pub left : List ℕ → ℕ → ℕ → List Entry
@@ -54,3 +56,14 @@ module _ {s pay : List ℕ} {m : ℕ} {b : Before} {i : ℕ} (a : Ahead s pay m 
         upto = omega (arith, q .upto);
         size = omega (arith, length-part pay (b .end) (e .end) (omega (arith, q .end)) (q .within), q .within);
       }
+
+-- ---- the blocks
+
+pub takes-list : {v : Verdict} {xs : List ℕ} → v ≡ taken xs → Takes v
+takes-list q = q ∙ ap (λ (l : List ℕ). taken l) (sym (ap listIn q))
+
+module _ (s pay : List ℕ) (m : ℕ) (b : Before) (i : ℕ) (e : Entry) (here : e ≡ entryAt s (entryPlace i)) (h : i < m) where
+  pub split-here : Takes (blocksOf pay b i (left s m i)) → Split pay b i e (left s m (i + 1)) (listIn (blocksOf pay b i (left s m i)))
+  split-here t =
+      split pay b i e (left s m (i + 1)) (listIn (blocksOf pay b i (left s m i)))
+      (sym (ap (blocksOf pay b i) (entries-here s m i e here h)) ∙ t)

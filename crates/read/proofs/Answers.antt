@@ -37,7 +37,7 @@ few-after p pay b i (e ∷ es) xs h d t =
       length-append (x .first .list) (x .others),
     )
 
-pub taken-few : (s : List ℕ) {xs : List ℕ} → verdict s ≡ taken xs → length xs ≤ mostSteps
+taken-few : (s : List ℕ) {xs : List ℕ} → verdict s ≡ taken xs → length xs ≤ mostSteps
 taken-few s {xs} e =
     let t = peel s xs e in
     omega (
@@ -52,14 +52,15 @@ pub record Yes (s : List ℕ) (n : ℕ) : Type 0 where
   pub count : length list ≡ n
   pub few : n ≤ mostSteps
 
+pub yes-taken : (s : List ℕ) {xs : List ℕ} {n : ℕ} → verdict s ≡ taken xs → length xs ≡ n → Yes s n
+yes-taken s {xs} q k = record { list = xs; is = q; count = k; few = omega (arith, taken-few s q) }
+
 module _ (s : List ℕ) {r : Checked} (a : paperOf r ≡ checkPromise s) where
   pub answer-yes : {n : ℕ} → r ≡ Accepted n → Yes s n
   answer-yes {n} e = by (verdict s) refl (ap paperOf (sym e) ∙ a)
     where
       by : (v : Verdict) → verdict s ≡ v → paperOf (Accepted n) ≡ checkPaper v → Yes s n
-      by (taken xs) q p =
-          let k : length xs ≡ n = sym (ap (λ (l : List ℕ). getD l 0 0) (paper-values p)) in
-          record { list = xs; is = q; count = k; few = omega (arith, taken-few s q) }
+      by (taken xs) q p = yes-taken s q (sym (ap (λ (l : List ℕ). getD l 0 0) (paper-values p)))
       by (refused t) q p = paper-apart values p
 
   pub answer-no : {q : Refusal} → r ≡ Refused q → verdict s ≡ refused q

@@ -16,11 +16,11 @@ use Rattle.image.specs.declared.Before.{Before}
 use Rattle.image.specs.Entry.{entryPlace, entryAt, entriesAt, start, afterEntry}
 use Rattle.image.specs.Block.{Found, steps, wrong, blockOf}
 use Rattle.image.specs.Verdict.{Verdict, taken, refused, prepend, blocksOf}
-use Rattle.image.proofs.Entries.{entries-here}
-use Rattle.image.proofs.Blocks.{Good, block-good, block-wrong, blocks-turn, blocks-halt, blocks-end, split}
+use Rattle.image.proofs.Blocks.{Good, block-good, block-wrong, blocks-turn, blocks-halt, blocks-end}
 use Rattle.read.specs.declared.Checked.the-variants.{Accepted, Refused}
-use Rattle.read.specs.Inside.{numberOf, stepsOf, listIn, answerOf, Takes, Filling, Sound, Ready}
-use Rattle.read.proofs.Ahead.{left, left-start, Ahead, ahead-start, ahead-clean, ahead-next}
+use Rattle.read.specs.Inside.{numberOf, stepsOf, listIn, answerOf, Stands, Takes, Filling, Sound, Ready}
+use Rattle.read.proofs.ByKind.{stands-steps}
+use Rattle.read.proofs.Ahead.{left, left-start, Ahead, ahead-start, ahead-clean, ahead-next, takes-list, split-here}
 
 -- ---- a block by its number
 
@@ -102,12 +102,9 @@ putting-start s pay m out r =
           rw (← left-start s m) (storing-start out 0 (listIn (blocksOf pay start 0 (entriesAt m s (entryPlace 0)))) (omega (arith, r .room)));
     }
 
-pub takes-list : {v : Verdict} {xs : List ℕ} → v ≡ taken xs → Takes v
-takes-list q = q ∙ ap (λ (l : List ℕ). taken l) (sym (ap listIn q))
-
 -- a block and those after it, where all are taken
 record Halves (f : Found) (whole rest : Verdict) : Type 0 where
-  good : f ≡ steps (stepsOf f)
+  good : Stands f
   takes : Takes rest
   both : listIn whole ≡ stepsOf f ++ listIn rest
 
@@ -117,14 +114,11 @@ module _ {s pay : List ℕ} {m : ℕ} {out₀ out : List ℕ} {b : Before} {i p 
         (blocksOf pay (afterEntry e) (i + 1) (left s m (i + 1)))
     halves =
         let f = blockOf b e (part pay (b .end) (e .end)) in
-        let x =
-        split pay b i e (left s m (i + 1)) (listIn (blocksOf pay b i (left s m i)))
-        (sym (ap (blocksOf pay b i) (entries-here s m i e here h)) ∙ c .takes)
-        in
+        let x = split-here s pay m b i e here h (c .takes) in
         let on : stepsOf f ≡ x .first .list = ap stepsOf (x .first .is) in
         let after : listIn (blocksOf pay (afterEntry e) (i + 1) (left s m (i + 1))) ≡ x .others = ap listIn (x .more) in
         record {
-          good = x .first .is ∙ ap (λ (l : List ℕ). steps l) (sym on);
+          good = stands-steps (x .first .is);
           takes = takes-list (x .more);
           both = sym (x .both) ∙ rw (on, after);
         }

@@ -37,6 +37,10 @@ abbrev pub answerOf : ℕ → Verdict → Checked
 answerOf c (taken xs) = Accepted (c + length xs)
 answerOf c (refused r) = Refused r
 
+-- a block that stands for its steps
+abbrev pub Stands : Found → Type 0
+Stands f = f ≡ steps (stepsOf f)
+
 -- a verdict that takes
 abbrev pub Takes : Verdict → Type 0
 Takes v = v ≡ taken (listIn v)
@@ -50,7 +54,7 @@ pub record Fitting (b : Before) (e : Entry) (part : List ℕ) : Type 0 where
 
 -- a block that was checked, and room for its steps at a place of a buffer of n
 pub record Filling (f : Found) (at n : ℕ) : Type 0 where
-  pub good : f ≡ steps (stepsOf f)
+  pub good : Stands f
   pub room : at + length (stepsOf f) ≤ n
 
 -- a directory that was checked

@@ -28,7 +28,7 @@ pub enum Counted {
     Refused(Refusal),
 }
 
-// Whether each step is above its forerunner. No turn of the loop leaves it, so that several steps are compared at once.
+// Whether each step is above its forerunner; no turn leaves the loop, so that several steps are compared at once.
 fn rises(list: &[u32]) -> bool
     ensures { λ r. ⌜ (r ≡ true → Passed falls (now (list .entry)) (length (now (list .entry)))) ⌝ }
 {

@@ -34,14 +34,14 @@ first-in-requires c κs =
     let l = lands (c .before .before) in
     (held-sound (c .part-of .ensures) (l .holds), l .reach)
 
-cast-t9 : tie.Need-cast-t9
-cast-t9 c = omega (arith, c .before .first-in .ensures .small, lands (c .before .before .before .before) .holds .sound .last, largest-coded)
+cast-step : tie.Need-cast-step
+cast-step c = omega (arith, c .before .first-in .ensures .small, lands (c .before .before .before .before) .holds .sound .last, largest-coded)
 
-add-t10 : tie.Need-add-t10
-add-t10 c = search needs
+add-rank : tie.Need-add-rank
+add-rank c = search needs
 
-cast-t11 : tie.Need-cast-t11
-cast-t11 c =
+cast-rank : tie.Need-cast-rank
+cast-rank c =
     let h = lands (c .before .before .before .before .before .before) .holds in
     omega (arith, c .before .before .before .first-in .ensures .within, h .order, h .few, most-counted)
 
@@ -69,9 +69,9 @@ first-in-spec =
     enum-known-s
     part-of-requires
     first-in-requires
-    cast-t9
-    add-t10
-    cast-t11
+    cast-step
+    add-rank
+    cast-rank
     enum-told
     returns
     returns-2)

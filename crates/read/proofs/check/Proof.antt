@@ -8,7 +8,8 @@ use Rattle.image.specs.Entry.{entryPlace, payloadPlace, entriesAt, start}
 use Rattle.image.specs.Verdict.{blocksOf}
 use Rattle.image.proofs.Verdict.{short, short-m, short-p, long, just-fault, just-fine}
 use Rattle.read.specs.Read.{paperOf, checkPaper}
-use Rattle.read.proofs.Whole.{sound-whole, checked}
+use Rattle.read.proofs.Outcomes.{checked}
+use Rattle.read.proofs.Whole.{sound-whole}
 use Rattle.read.proofs.check.Statement.{statement}
 use Rattle.read.proofs.check.Tie as tie
 

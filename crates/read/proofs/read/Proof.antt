@@ -6,7 +6,8 @@ use lib.ListN.{length}
 use lib.Seq.{sets}
 use Rattle.read.specs.Read.{paperOf}
 use Rattle.read.proofs.Answers.{Yes, answer-yes, answer-no}
-use Rattle.read.proofs.Whole.{number-here, payload-here, list-here, ready-here, read-no, read-short, read-full}
+use Rattle.read.proofs.Outcomes.{read-no, read-short, read-full}
+use Rattle.read.proofs.Whole.{number-here, payload-here, list-here, ready-here}
 use Rattle.read.proofs.read.Statement.{statement}
 use Rattle.read.proofs.read.Tie as tie
 

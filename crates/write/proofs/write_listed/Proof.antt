@@ -43,7 +43,7 @@ cast-t19 c =
 refuse-requires : tie.Need-refuse-requires
 refuse-requires c κs =
     let p = c .before .before .before .before in
-    planned-fits (p .plan .ensures) (p .before .before .before .before .before .pre .0)
+    omega (arith, planned-fits (p .plan .ensures) (p .before .before .before .before .before .pre .0))
 
 work-for-requires : tie.Need-work-for-requires
 work-for-requires c κs = search needs

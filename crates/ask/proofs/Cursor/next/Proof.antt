@@ -38,11 +38,11 @@ cast-step-at c = search needs
 step-at-requires : tie.Need-step-at-requires
 step-at-requires c κs = let k = keep (c .before .before .before) in (k .takes, omega (arith, k .count, c .before .if1 .left, c .if2 .left))
 
-cast-t12 : tie.Need-cast-t12
-cast-t12 c = search needs
+cast-step : tie.Need-cast-step
+cast-step c = search needs
 
-add-t13 : tie.Need-add-t13
-add-t13 c = search needs
+add-rank : tie.Need-add-rank
+add-rank c = search needs
 
 returns-3 : tie.Need-returns-3
 returns-3 c =
@@ -65,7 +65,7 @@ next-spec =
     returns-2
     cast-step-at
     step-at-requires
-    cast-t12
-    add-t13
+    cast-step
+    add-rank
     returns-3
     returns-4)
