@@ -1,17 +1,20 @@
 -- THE ROUND TRIP: where writing accepts a list, it is one of document 01's, and what then stands at the front of the output is an image that
--- stands for it.
+-- stands for it; reading that image back gives the list.
 -- Assumes nothing.
 use mathlib.Core.Path.{_≡_, refl, ap, _∙_}
-use mathlib.Core.List.{List}
-use Prim.Native.Nat.{ℕ}
-use lib.ListN.{length, getD, take}
+use mathlib.Core.List.{List, [], _∷_, _++_}
+use Prim.Native.Nat.{ℕ, _≤_}
+use lib.ListN.{length, getD, take, drop}
 use lib.Seq.{take-at}
+use borrow.Author.Tests.{le-ltb}
 use Rattle.lists.proofs.Choice.{by-lt}
 use Rattle.rules.specs.Limits.{mostSteps}
 use Rattle.rules.specs.Sizes.{workFor}
 use Rattle.rules.specs.Listed.{Listed}
+use Rattle.rules.specs.Paper.{accepting}
 use Rattle.rules.proofs.Paper.{paper-apart, paper-values}
 use Rattle.image.specs.Verdict.{taken, verdict}
+use Rattle.read.specs.Read.{readPaper, readPromise, stepsAfter, readSteps}
 use Rattle.write.specs.declared.Counted.the-variants.{Accepted}
 use Rattle.write.specs.Written.{Written, imageFor}
 use Rattle.write.specs.Faults.{firstAbove, firstFall}
@@ -63,3 +66,11 @@ module _ {xs work out : List ℕ} {n s : ℕ} {work′ out′ : List ℕ} (p : P
   -- WHAT WAS WRITTEN STANDS FOR THE LIST
   pub round-trip : verdict (take s out′) ≡ taken xs
   round-trip = written-taken (accepted-placed .written) listed
+
+  -- READING IT BACK GIVES THE LIST: the steps go to the first places of a buffer that has room for them
+  pub read-back : (buffer : List ℕ) → length xs ≤ length buffer
+      → (readPromise (take s out′) buffer ≡ accepting (length xs ∷ [])) × (readSteps (take s out′) buffer ≡ xs ++ drop (length xs) buffer)
+  read-back buffer h = (
+    ap (readPaper (length buffer)) round-trip ∙ simp (le-ltb (length buffer) (length xs) h),
+    ap (stepsAfter buffer) round-trip ∙ simp (le-ltb (length buffer) (length xs) h),
+  )
