@@ -5,6 +5,7 @@ ghost use mathlib.Core.Path.{_≡_};
 ghost use Prim.Native.Nat.{_+_, _≤_, _<_};
 ghost use lib.ListN.{length};
 ghost use lib.Seq.{sets};
+ghost use Rattle.code.specs.declared.Reading.the-variants.{Code};
 ghost use Rattle.code.specs.Code.{codeValues, codeOf, codeSize, readAt};
 
 // The values of a group, and of two and three groups: the numbers below have codes of one, two and three bytes.
@@ -13,6 +14,9 @@ const ONE_GROUP: u32 = 128;
 const TWO_GROUPS: u32 = 16384;
 
 const THREE_GROUPS: u32 = 2097152;
+
+// The numbers below have a code.
+pub const CODE_VALUES: usize = 268435456;
 
 // The high bit of a byte.
 const FLAG: u32 = 128;
@@ -79,6 +83,18 @@ fn wide(x: u8) -> u32
     ensures { λ r. ⌜ (r ≡ x) × (r < 256) ⌝ }
 {
     x as u32
+}
+
+// The value of the code at the front of a part where that code is a single byte, else the number of values, which is no value.
+pub fn single(s: &[u8]) -> usize
+    requires { ⌜ 0 < length (now s) ⌝ }
+    ensures { λ r. ⌜ (r ≤ codeValues) × (r < codeValues → readAt (now (s .entry)) 0 ≡ Code r 1) ⌝ }
+{
+    let a = wide(s[0]);
+    if a < ONE_GROUP {
+        return a as usize;
+    }
+    CODE_VALUES
 }
 
 // Reads the code at a place of a part.

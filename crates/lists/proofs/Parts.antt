@@ -6,7 +6,7 @@ use Prim.Native.Nat.{ℕ, zero, suc, _+_, _-_, _≤_, _<_}
 use native.Mathlib.Omega.{arith}
 use native.Mathlib.Numerals.{add-one}
 use lib.ListN.{length, getD, take, drop, length-take, length-drop, length-append, take-append-drop}
-use lib.Seq.{drop-cons, drop-drop, take-add, take-all, take-at, drop-at, getD-drop}
+use lib.Seq.{drop-cons, drop-drop, take-add, take-all, take-nil, take-at, drop-at, getD-drop}
 use Rattle.lists.specs.Parts.{part}
 
 module _ {X : Type 0} where
@@ -39,6 +39,22 @@ module _ {X : Type 0} where
   part-one s i d h =
       let q : i + 1 - i ≡ suc 0 = omega arith in
       ap (λ (n : ℕ). take n (drop i s)) q ∙ ap (take (suc 0)) (drop-cons s i d h)
+
+  drop-take : (n m : ℕ) (l : List X) → drop n (take m l) ≡ take (m - n) (drop n l)
+  drop-take zero m l = let q : m ≡ m - 0 = omega arith in ap (λ (k : ℕ). take k l) q
+  drop-take (suc n) zero l = let q : 0 ≡ 0 - suc n = omega arith in ap (λ (k : ℕ). take k (drop (suc n) l)) q
+  drop-take (suc n) (suc m) [] = sym (take-nil (suc m - suc n))
+  drop-take (suc n) (suc m) (x ∷ l) =
+      let q : m - n ≡ suc m - suc n = omega arith in
+      drop-take n m l ∙ ap (λ (k : ℕ). take k (drop n l)) q
+
+  -- a part without its front
+  pub drop-part : (s : List X) (i j n : ℕ) → drop n (part s i j) ≡ part s (i + n) j
+  drop-part s i j n =
+      let q : j - i - n ≡ j - (i + n) = omega arith in
+      drop-take n (j - i) (drop i s)
+      ∙ ap (λ (k : ℕ). take k (drop n (drop i s))) q
+      ∙ ap (take (j - (i + n))) (drop-drop n i s)
 
   -- what stands from rank `i` on, where a run of `xs` and then `ys` stands there
   pub drop-run : (s : List X) (i : ℕ) (xs ys : List X) → drop i s ≡ xs ++ ys → drop (i + length xs) s ≡ ys

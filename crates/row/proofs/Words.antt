@@ -5,9 +5,10 @@ use mathlib.Core.List.{List, [], _∷_, _++_}
 use Prim.Native.Nat.{ℕ, zero, suc, _+_, _-_, _*_, _^_, _≤_, _<_}
 use native.Mathlib.Omega.{arith}
 use native.Mathlib.Nat.{pow-le-pow-right}
-use lib.ListN.{length, getD, take, drop, length-take, length-drop, length-append, take-append-drop}
+use lib.ListN.{length, getD, take, drop, length-take, length-drop, length-append, take-append-drop, drop-of-length-le}
 use lib.Seq.{take-add, drop-drop, drop-length}
 use Rattle.lists.specs.Bytes.{Bytes, byteValues}
+use Rattle.lists.proofs.Choice.{by-lt}
 use Rattle.lists.proofs.Parts.{drop-one}
 use Rattle.lists.proofs.Bytes.{bytes-take, bytes-drop}
 use Rattle.rules.specs.Sizes.{numberSize}
@@ -55,6 +56,33 @@ pub little-drop-lt : (s : List ℕ) (i k : ℕ) → Bytes s → length s ≤ i +
 little-drop-lt s i k w h =
     let m : byteValues ^ length (drop i s) ≤ byteValues ^ k = pow-le-pow-right (omega arith) (omega (arith, length-drop i s)) in
     omega (arith, little-lt (drop i s) (bytes-drop s i w))
+
+-- ---- the first word, and what follows it
+
+module _ (o : ℕ) (s : List ℕ) (w : Bytes s) where
+  pub row-words : rowSteps o s ≡ bitsFrom wordBits o (little (take wordBytes s)) ++ rowSteps (o + wordBits) (drop wordBytes s)
+  row-words = by-lt (length s) wordBytes short long
+    where
+      front : rowSteps o s ≡ bitsFrom wordBits o (little (take wordBytes s)) ++ rowSteps (o + byteBits * length (take wordBytes s)) (drop wordBytes s)
+      front =
+          ap (rowSteps o) (sym (take-append-drop wordBytes s))
+          ∙ row-append o (take wordBytes s) (drop wordBytes s)
+          ∙ ap (λ (l : List ℕ). l ++ rowSteps (o + byteBits * length (take wordBytes s)) (drop wordBytes s))
+          (row-little wordBytes o (take wordBytes s) (bytes-take s wordBytes w) (omega (arith, length-take wordBytes s)))
+
+      long : wordBytes ≤ length s → rowSteps o s ≡ bitsFrom wordBits o (little (take wordBytes s)) ++ rowSteps (o + wordBits) (drop wordBytes s)
+      long h =
+          let n : length (take wordBytes s) ≡ wordBytes = omega (arith, length-take wordBytes s) in
+          front ∙ ap (λ (k : ℕ). bitsFrom wordBits o (little (take wordBytes s)) ++ rowSteps (o + byteBits * k) (drop wordBytes s)) n
+
+      short : length s < wordBytes → rowSteps o s ≡ bitsFrom wordBits o (little (take wordBytes s)) ++ rowSteps (o + wordBits) (drop wordBytes s)
+      short h =
+          let d : drop wordBytes s ≡ [] = drop-of-length-le s {i = wordBytes} (omega arith) in
+          let p : ℕ = o + byteBits * length (take wordBytes s) in
+          let none : rowSteps p (drop wordBytes s) ≡ rowSteps (o + wordBits) (drop wordBytes s) =
+          ap (rowSteps p) d ∙ row-none p ∙ sym (row-none (o + wordBits)) ∙ ap (rowSteps (o + wordBits)) (sym d)
+          in
+          front ∙ ap (λ (l : List ℕ). bitsFrom wordBits o (little (take wordBytes s)) ++ l) none
 
 -- ---- a loop over words
 

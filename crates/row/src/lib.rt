@@ -52,6 +52,16 @@ fn last_word(s: &[u8], at: usize) -> usize
     word
 }
 
+// The word of the first eight bytes, or of all where there are fewer.
+pub fn word(s: &[u8]) -> usize
+    ensures { λ r. ⌜ r ≡ little (take wordBytes (now (s .entry))) ⌝ }
+{
+    if s.len() < WORD_BYTES {
+        return last_word(s, 0);
+    }
+    word_at(s, 0)
+}
+
 // How many ones a word has.
 fn ones(word: usize) -> usize
     ensures { λ r. ⌜ (r ≡ length (bitsFrom wordBits 0 word)) × (r ≤ wordBits) ⌝ }
