@@ -15,7 +15,7 @@ use Rattle.code.specs.declared.Reading.the-variants.{Code, Bad}
 use Rattle.code.specs.Code.{readAt}
 use Rattle.code.specs.Code.Laws.{Read, read-sound}
 use Rattle.codes.specs.Codes.{Values, all, bad, onTop, valuesFrom, asSteps, stepsFrom, listOf}
-use Rattle.codes.proofs.Codes.{read-passes, values-back, bad-all, values-sound, steps-bad, steps-more}
+use Rattle.codes.proofs.Codes.{values-back, bad-all, values-sound, steps-bad, steps-more}
 use Rattle.walk.specs.declared.Walk.{Walk}
 use Rattle.walk.specs.declared.Rest.{Rest}
 use Rattle.walk.specs.Blocks.{noStep}
@@ -37,7 +37,6 @@ steps-drop o s n xs w e = by (valuesFrom s n) refl e
 pub record Opening (o : ℕ) (pay : List ℕ) (at end x n : ℕ) : Type 0 where
   pub is : codesIn o pay at end ≡ (o + x) ∷ codesIn (o + x + 1) pay (at + n) end
   pub whole : Whole (o + x + 1) pay (at + n) end
-  pub on : 0 < n
   pub within : at + n ≤ end
 
 module _ (o : ℕ) (pay : List ℕ) (at end : ℕ) (good : Whole o pay at end) where
@@ -62,7 +61,6 @@ module _ (o : ℕ) (pay : List ℕ) (at end : ℕ) (good : Whole o pay at end) w
           record {
             is = ap listOf (on-top (all xs) q) ∙ ap (λ (l : List ℕ). (o + x) ∷ l) (sym (ap listOf d));
             whole = d ∙ ap (λ (l : List ℕ). all l) (sym (ap listOf d));
-            on = read-passes r;
             within = omega (arith, r .within, length-part pay at end h k);
           }
       by (bad f i) q = bad-all (sym (on-top (bad f i) q) ∙ good)
@@ -86,7 +84,6 @@ module _ {o : ℕ} {pay : List ℕ} {at end x n : ℕ} (f : Opening o pay at end
         small = omega (arith, beyond-first o (o + x) (codesIn o pay at end) (here pay v) coded-is);
         few = few;
         within = within;
-        at = omega (arith, f .within);
         low = omega arith;
         codes = λ c. f .whole;
         row = λ c. absurd (c refl);
@@ -95,16 +92,18 @@ module _ {o : ℕ} {pay : List ℕ} {at end x n : ℕ} (f : Opening o pay at end
 -- what is left of a block of codes
 module _ (pay : List ℕ) (p : Rest) (r : Readable pay p) (k : p .kind ≡ 0) (h : p .at < p .end) where
   pub code-met : (x n : ℕ) → Bytes pay → readAt (part pay (p .at) (p .end)) 0 ≡ Code x n
-      → Met pay p (codedWalk (p .next + x) (p .at + n) (p .end) (p .block))
+      → Met pay p (codedWalk (p .next + x) (p .at + n) (p .end) (p .block)) × (p .at + n ≤ p .end)
   code-met x n b e =
       let f = opening (p .next) pay (p .at) (p .end) (r .codes k) x n b (omega arith) (r .within) e in
-      let l = left-codes pay p k in
-      record {
-        block = refl;
-        end = refl;
-        is = l ∙ coded-is f (p .block);
-        stands = coded-open f (p .block) (r .few) (r .within) (omega (arith, r .small, ap (beyond (p .next)) l));
-      }
+      let l = left-codes pay p k in (
+        record {
+          block = refl;
+          end = refl;
+          is = l ∙ coded-is f (p .block);
+          stands = coded-open f (p .block) (r .few) (r .within) (omega (arith, r .small, ap (beyond (p .next)) l));
+        },
+        f .within,
+      )
 
   pub code-good : (f : Flaw) → readAt (part pay (p .at) (p .end)) 0 ≡ Bad f → ⊥
   code-good f e = opening-bad (p .next) pay (p .at) (p .end) (r .codes k) f h (r .within) e

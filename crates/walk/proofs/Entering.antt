@@ -89,8 +89,6 @@ next-block {s} {pay} {i} {k} e b at h =
             size = b .size;
             few = b .few;
             end = ap (λ (y : Before). y .end) n;
-            within = c .0 .within;
-            small = omega (arith, c .0 .small, ap (λ (y : Before). y .next) n);
             fine = ap (λ (y : Before). directoryOf (length pay) y (i + 1) es) (sym n) ∙ c .1;
             takes = m ∙ ap taken (sym (ap listIn m));
           };
@@ -125,7 +123,6 @@ module _ (pay : List ℕ) (b : Before) (e : Entry) (g : Good b e (part pay (b .e
         small = omega (arith, front-last, c .small);
         few = few;
         within = c .within;
-        at = omega (arith, c .end);
         codes = λ k. codes-list k ∙ ap (λ (xs : List ℕ). all xs) (sym (ap listOf (codes-list k)));
         order = λ k. omega arith;
         tight =

@@ -97,7 +97,6 @@ module _ (pay : List ℕ) (p : Rest) (r : Readable pay p) (k : p .kind ≡ 0 →
                 small = omega (arith, r .small);
                 few = r .few;
                 within = r .within;
-                at = omega (arith, s .on);
                 low = omega arith;
                 codes = λ c. absurd (z c);
                 row = λ c. record { lowest = refl; tight = λ g. omega (arith, r .tight k h, s .place) };

@@ -92,7 +92,6 @@ module _ (pay : List ℕ) (w : Walk) (p : Placed pay w) (b : w .bits ≡ 0 → �
                     small = omega (arith, o .small);
                     few = o .few;
                     within = o .within;
-                    at = o .at;
                     low = omega arith;
                     codes = λ c. absurd (z c);
                     row = λ c. record { lowest = refl; tight = λ k. omega (arith, l .tight k) };
@@ -171,7 +170,6 @@ module _ (pay : List ℕ) (w : Walk) (p : Placed pay w) (b : w .bits ≡ 0) wher
                       small = omega (arith, o .small, ap (beyond (w .step + 1)) is);
                       few = o .few;
                       within = o .within;
-                      at = o .at;
                       low = omega arith;
                       codes = λ c. o .codes b;
                       row = λ c. absurd (c refl);
@@ -253,7 +251,6 @@ module _ {s pay : List ℕ} {w : Walk} (t : Stands s pay w) {x : ℕ} (h : x < n
                 small = omega (arith, a .small);
                 few = a .few;
                 within = a .within;
-                at = a .at;
                 codes = a .codes;
                 order =
                     λ k.

@@ -83,8 +83,6 @@ module _ (s pay : List ℕ) (w : Bytes s) (t : Taken s) (e : pay ≡ payloadIn s
           size = omega (arith, x .size, x .is-m);
           few = omega (arith, x .is-p, number-lt s (entryPlace (x .m)) w (omega (arith, x .size)));
           end = refl;
-          within = omega arith;
-          small = omega arith;
           fine = subst (λ (n : ℕ). directoryOf (length pay) start 0 (entriesAt n s (entryPlace 0)) ≡ Fine) z (rw p (x .fine));
           takes = v ∙ ap taken (sym (ap listIn v));
         },
@@ -102,7 +100,6 @@ module _ (s pay : List ℕ) (w : Bytes s) (t : Taken s) (e : pay ≡ payloadIn s
                 small = omega (arith, ap (beyond 0) l);
                 few = b .0 .few;
                 within = omega arith;
-                at = omega arith;
                 codes = λ k. n ∙ ap (λ (xs : List ℕ). all xs) (sym (ap listOf n));
                 order = λ k. omega arith;
                 tight = λ k h. absurd (omega arith);

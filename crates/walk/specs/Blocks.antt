@@ -53,7 +53,5 @@ pub record Blocks (s pay : List ℕ) (i e : ℕ) : Type 0 where
   pub size : entryPlace (numberAt s 0) ≤ length s
   pub few : length pay < 2 ^ 32
   pub end : e ≡ beforeAt s i .end
-  pub within : e ≤ length pay
-  pub small : beforeAt s i .next ≤ noStep
   pub fine : directoryOf (length pay) (beforeAt s i) i (entriesFrom s i) ≡ Fine
   pub takes : blocksFrom s pay i ≡ taken (later s pay i)

@@ -9,7 +9,7 @@ use lib.ListN.{length}
 use Rattle.lists.specs.Choice.{pick}
 use Rattle.lists.specs.Rising.{beyond}
 use Rattle.row.specs.Row.{byteBits}
-use Rattle.row.specs.Words.{wordBytes, wordBits}
+use Rattle.row.specs.Words.{wordBits}
 use Rattle.walk.specs.declared.Walk.{Walk}
 use Rattle.walk.specs.declared.Rest.{Rest}
 use Rattle.walk.specs.declared.Move.{Move}
@@ -38,7 +38,6 @@ pub record Readable (pay : List ℕ) (p : Rest) : Type 0 where
   pub small : beyond (p .next) (left pay p) ≤ noStep
   pub few : length pay < 2 ^ 32
   pub within : p .end ≤ length pay
-  pub at : p .at ≤ p .end + wordBytes
   pub codes : p .kind ≡ 0 → Whole (p .next) pay (p .at) (p .end)
   pub order : (p .kind ≡ 0 → ⊥) → p .next ≤ p .from
   pub tight : (p .kind ≡ 0 → ⊥) → p .at < p .end → p .from + byteBits * (p .end - p .at) < beyond (p .next) (left pay p) + byteBits

@@ -11,7 +11,7 @@ use Rattle.lists.specs.Rising.{beyond}
 use Rattle.lists.specs.Parts.{part}
 use Rattle.codes.specs.Codes.{all, stepsFrom, listOf}
 use Rattle.row.specs.Row.{byteBits, bitsFrom, rowSteps}
-use Rattle.row.specs.Words.{wordBytes, wordBits}
+use Rattle.row.specs.Words.{wordBits}
 use Rattle.walk.specs.declared.Walk.{Walk}
 use Rattle.walk.specs.Blocks.{noStep, beforeAt, later, Blocks}
 
@@ -51,7 +51,6 @@ pub record Open (pay : List ℕ) (w : Walk) : Type 0 where
   pub small : beyond (w .step + 1) (here pay w) ≤ noStep
   pub few : length pay < 2 ^ 32
   pub within : w .end ≤ length pay
-  pub at : w .at ≤ w .end + wordBytes
   pub low : w .low ≤ w .step
   pub codes : w .bits ≡ 0 → Whole (w .step + 1) pay (w .at) (w .end)
   pub row : (w .bits ≡ 0 → ⊥) → Loaded pay w

@@ -7,7 +7,7 @@
 
 ghost use mathlib.Core.Path.{_≡_};
 ghost use mathlib.Core.List.{_∷_};
-ghost use Prim.Native.Nat.{_+_, _^_, _≤_, _<_};
+ghost use Prim.Native.Nat.{_^_, _≤_, _<_};
 ghost use Rattle.lists.specs.Choice.{pick};
 ghost use lib.Dec.{eqb};
 ghost use Rattle.walk.specs.Blocks.{noStep, stepsOf, Taken, payloadIn};
@@ -223,7 +223,7 @@ fn past_bit(w: Walk, x: usize) -> Move
 
 // Moves past x by a code of one byte.
 fn past_code(w: Walk, x: usize, payload: &[u8]) -> Move
-    requires { ⌜ Placed (now payload) w × ((w .bits ≡ 0) × (x < noStep)) ⌝ }
+    requires { ⌜ Placed (now payload) w × (w .bits ≡ 0) ⌝ }
     ensures { λ r. ⌜ Moves (now (payload .entry)) w x r ⌝ }
 {
     let at = w.at;
@@ -247,7 +247,7 @@ fn past_code(w: Walk, x: usize, payload: &[u8]) -> Move
 
 // Moves past x within what is loaded.
 fn moved(w: Walk, x: usize, payload: &[u8]) -> Move
-    requires { ⌜ Placed (now payload) w × (x < noStep) ⌝ }
+    requires { ⌜ Placed (now payload) w ⌝ }
     ensures { λ r. ⌜ Moves (now (payload .entry)) w x r ⌝ }
 {
     if w.bits == 0 {

@@ -1,6 +1,6 @@
 -- `walk::in_codes` meets its contract: no code fails in a block that was checked, so one is read. Assumes nothing.
 use mathlib.Core.Path.{sym, _∙_, subst}
-use Prim.Native.Nat.{_+_}
+use Prim.Native.Nat.{_+_, _≤_}
 use native.Mathlib.Omega.{arith}
 use borrow.Author.Needs.{needs}
 use Rattle.rules.specs.Limits.Laws.{largest-coded}
@@ -32,7 +32,7 @@ cast-coded c = search needs
 read : (c : tie.After-known-told)
     → let a = c .before .before .before .before .before .before .args in
     let r = c .before .r .given .0 in
-    Met (a .payload .now) (a .p) (codedWalk (a .p .next + r .0) (a .p .at + r .1 .0) (a .p .end) (a .p .block))
+    Met (a .payload .now) (a .p) (codedWalk (a .p .next + r .0) (a .p .at + r .1 .0) (a .p .end) (a .p .block)) × (a .p .at + r .1 .0 ≤ a .p .end)
 read c =
     let d = c .before .before .before .before .before in
     let a = d .before .args in
@@ -43,10 +43,10 @@ read c =
 add-coded : tie.Need-add-coded
 add-coded c =
     let d = c .before .before .before .before .before .before .before in
-    omega (arith, met-step (d .args .payload .now) (d .args .p) _ (d .pre .0) (read (c .before)), largest-coded)
+    omega (arith, met-step (d .args .payload .now) (d .args .p) _ (d .pre .0) (read (c .before) .0), largest-coded)
 
 add-coded-2 : tie.Need-add-coded-2
-add-coded-2 c = omega (arith, read (c .before) .stands .at, c .before .before .before .before .before .before .before .pre .0 .few)
+add-coded-2 c = omega (arith, read (c .before) .1, c .before .before .before .before .before .before .before .pre .0 .few)
 
 coded-requires : tie.Need-coded-requires
 coded-requires c κs = search needs
@@ -60,7 +60,7 @@ coded-requires-2 c κs = search needs
 returns : tie.Need-returns
 returns c =
     let a = c .before .before .before .before .before .before .before .before .args in
-    subst (Met (a .payload .now) (a .p)) (sym (c .coded .ensures)) (read (c .before .before))
+    subst (Met (a .payload .now) (a .p)) (sym (c .coded .ensures)) (read (c .before .before) .0)
 
 returns-2 : tie.Need-returns-2
 returns-2 c =

@@ -17,7 +17,7 @@ returns c = search needs
 past-bit-requires : tie.Need-past-bit-requires
 past-bit-requires c κs =
     let d = c .before .before .before in
-    let q = d .pre .0 in
+    let q = d .pre in
     let h = on-step (d .args .payload .now) (d .args .w) q (c .if1 .left) (omega arith) in
     (omega arith, omega (arith, q .on h .low, largest-coded))
 
@@ -25,7 +25,7 @@ returns-2 : tie.Need-returns-2
 returns-2 c =
     let d = c .before .before .before .before in
     subst (Moves (d .args .payload .now) (d .args .w) (d .args .x)) (sym (c .past-bit .ensures))
-    (bit-moves (d .args .payload .now) (d .args .w) (d .pre .0) (c .before .if1 .left) (omega arith) (d .args .x))
+    (bit-moves (d .args .payload .now) (d .args .w) (d .pre) (c .before .if1 .left) (omega arith) (d .args .x))
 
 pub moved-spec : {M : Type 1} → statement M
 moved-spec = tie.close (tie.spec past-code-requires returns past-bit-requires returns-2)

@@ -14,7 +14,7 @@ use Rattle.walk.proofs.past_code.Tie as tie
 inside : (c : tie.Then1) → let a = c .before .before .args in Open (a .payload .now) (a .w)
 inside c =
     let d = c .before .before in
-    among (d .args .payload .now) (d .args .w) (d .pre .0) (d .pre .1 .0) (c .if1 .taken)
+    among (d .args .payload .now) (d .args .w) (d .pre .0) (d .pre .1) (c .if1 .taken)
 
 sub-single : tie.Need-sub-single
 sub-single c = search needs
@@ -54,14 +54,14 @@ returns c =
     let a = d .args in
     let g = c .before .before .before .before .before .single in
     subst (Slid (a .payload .now) (a .w) (a .x)) (sym (c .coded .ensures))
-    (code-slid (a .payload .now) (a .w) (d .pre .0) (d .pre .1 .0) (c .before .before .before .before .before .before .before .if1 .taken) (g .result)
+    (code-slid (a .payload .now) (a .w) (d .pre .0) (d .pre .1) (c .before .before .before .before .before .before .before .if1 .taken) (g .result)
     (λ i. omega (arith, c .before .before .before .before .before .before .before .before .shared-slice-known .given i)) (g .ensures .1 (c .before .before .before .before .if2 .taken)) (a .x)
     (c .before .before .before .gone .result) (c .before .gone2 .result) (c .before .before .before .gone .ensures .0) (c .before .gone2 .ensures .0))
 
 returns-2 : tie.Need-returns-2
 returns-2 c =
     let d = c .before .before .before .before in
-    (c .if3 .taken, code-out (d .args .payload .now) (d .args .w) (d .pre .0) (d .pre .1 .0))
+    (c .if3 .taken, code-out (d .args .payload .now) (d .args .w) (d .pre .0) (d .pre .1))
 
 returns-3 : tie.Need-returns-3
 returns-3 c =
