@@ -1,17 +1,19 @@
--- Laws that users of sets expect, as consequences of membership: both and either are commutative, associative and idempotent, and the first
--- without nothing is the first.
+-- Laws that users of sets expect, of the bytes that chains end in: both and either are commutative, associative and idempotent, and the first
+-- without the empty image comes back as its shortest image.
 -- Assumes nothing.
 use mathlib.Core.Path.{_≡_, refl, sym, ap, _∙_}
 use mathlib.Core.Bool.{Bool, true, false}
 use mathlib.Core.List.{List, []}
 use Prim.Native.Nat.{ℕ}
-use Rattle.lists.specs.Rising.{Rising}
 use Rattle.lists.specs.Members.{has}
-use Rattle.lists.proofs.Members.{has-none, same-members}
+use Rattle.lists.proofs.Members.{has-none}
+use Rattle.image.specs.Grammar.{Accepted}
+use Rattle.write.specs.Written.{Written}
 use Rattle.pair.specs.declared.Operation.{Operation}
 use Rattle.pair.specs.declared.Operation.the-variants.{Both, Either, Without}
-use Rattle.pair.specs.Result.{keeps, resultOf}
-use Rattle.pair.proofs.Result.{rising-result, has-result}
+use Rattle.pair.specs.Result.{keeps}
+use Rattle.pair.specs.Chain.{Thing, given, made, means, Ends}
+use Rattle.pair.proofs.Chains.{chain-writes, chains-same}
 
 -- the operations that do not tell the first from the second
 pub data Even : Operation → Type 0 where
@@ -44,31 +46,27 @@ keeps-all : (p : Bool) → keeps Without p false ≡ p
 keeps-all true = refl
 keeps-all false = refl
 
--- a rising list that has what an operation keeps is the result
-result-from : (op : Operation) (xs ys zs : List ℕ) → Rising 0 xs → Rising 0 ys → Rising 0 zs
-    → ((z : ℕ) → keeps op (has z xs) (has z ys) ≡ has z zs) → resultOf op xs ys ≡ zs
-result-from op xs ys zs u v w h =
-    same-members 0 0 (resultOf op xs ys) zs (rising-result op xs ys) w (λ z. has-result op xs ys u v z ∙ h z)
+-- ---- in bytes
 
 module _ {op : Operation} (even : Even op) where
-  pub result-comm : (xs ys : List ℕ) → Rising 0 xs → Rising 0 ys → resultOf op xs ys ≡ resultOf op ys xs
-  result-comm xs ys u v =
-      result-from op xs ys (resultOf op ys xs) u v (rising-result op ys xs)
-      (λ z. keeps-comm even (has z xs) (has z ys) ∙ sym (has-result op ys xs v u z))
+  -- IN EITHER ORDER
+  pub bytes-comm : (t u : Thing) {b c : List ℕ} → Ends (made op t u) b → Ends (made op u t) c → b ≡ c
+  bytes-comm t u e f = chains-same op t u op u t e f (λ z. keeps-comm even (means t z) (means u z))
 
-  pub result-assoc : (xs ys zs : List ℕ) → Rising 0 xs → Rising 0 ys → Rising 0 zs
-      → resultOf op (resultOf op xs ys) zs ≡ resultOf op xs (resultOf op ys zs)
-  result-assoc xs ys zs u v w =
-      result-from op (resultOf op xs ys) zs (resultOf op xs (resultOf op ys zs)) (rising-result op xs ys) w (rising-result op xs (resultOf op ys zs))
-      (λ z.
-      ap (λ (b : Bool). keeps op b (has z zs)) (has-result op xs ys u v z)
-      ∙ keeps-assoc even (has z xs) (has z ys) (has z zs)
-      ∙ ap (keeps op (has z xs)) (sym (has-result op ys zs v w z))
-      ∙ sym (has-result op xs (resultOf op ys zs) u (rising-result op ys zs) z))
+  -- HOWEVER THREE ARE GROUPED
+  pub bytes-assoc : (t u v : Thing) {b c : List ℕ} → Ends (made op (made op t u) v) b → Ends (made op t (made op u v)) c → b ≡ c
+  bytes-assoc t u v e f =
+      chains-same op (made op t u) v op t (made op u v) e f (λ z. keeps-assoc even (means t z) (means u z) (means v z))
 
-  pub result-self : (xs : List ℕ) → Rising 0 xs → resultOf op xs xs ≡ xs
-  result-self xs u = result-from op xs xs xs u u u (λ z. keeps-self even (has z xs))
+  -- WITH ITSELF an image gives the shortest image of its list
+  pub bytes-self : (image xs : List ℕ) (a : Accepted image xs) {b : List ℕ} → Ends (made op (given image xs a) (given image xs a)) b → Written xs b
+  bytes-self image xs a e =
+      chain-writes op (given image xs a) (given image xs a) e xs (a .listed) (λ z. sym (keeps-self even (has z xs)))
 
-pub result-without-none : (xs : List ℕ) → Rising 0 xs → resultOf Without xs [] ≡ xs
-result-without-none xs u =
-    result-from Without xs [] xs u tt u (λ z. ap (keeps Without (has z xs)) (has-none z) ∙ keeps-all (has z xs))
+-- WITHOUT THE EMPTY IMAGE so does the first
+pub bytes-without-none : (image xs none : List ℕ) (a : Accepted image xs) (n : Accepted none []) {b : List ℕ}
+    → Ends (made Without (given image xs a) (given none [] n)) b
+    → Written xs b
+bytes-without-none image xs none a n e =
+    chain-writes Without (given image xs a) (given none [] n) e xs (a .listed)
+    (λ z. sym (ap (keeps Without (has z xs)) (has-none z) ∙ keeps-all (has z xs)))

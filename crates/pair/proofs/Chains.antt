@@ -18,16 +18,11 @@ use Rattle.write.proofs.Written.{written-one, written-accepted, written-least}
 use Rattle.pair.specs.declared.Operation.{Operation}
 use Rattle.pair.specs.Result.{keeps, resultOf}
 use Rattle.pair.specs.Chain.{Thing, given, made, means, Link, Ends}
-use Rattle.pair.proofs.Result.{rising-result, beyond-result, has-result}
+use Rattle.pair.proofs.Result.{result-listed, has-result}
 
 -- the result of a link is one of document 01's lists
 pub link-listed : {op : Operation} {c d b : List ℕ} (l : Link op c d b) → Listed (resultOf op (l .first) (l .second))
-link-listed {op} l =
-    record {
-      rising = rising-result op (l .first) (l .second);
-      small = beyond-result op (l .first) (l .second) _ (l .one .listed .small) (l .other .listed .small);
-      few = l .few;
-    }
+link-listed {op} l = result-listed op (l .one .listed) (l .other .listed) (l .few)
 
 -- what a thing ends in: an accepted image of the list that has what the thing means
 pub record Ended (t : Thing) (b : List ℕ) : Type 0 where

@@ -1,6 +1,9 @@
 pub mod Result
 pub mod Turns
 pub mod Merging
-pub mod Algebra
+pub mod Walking
+pub mod Outcomes
 pub mod Decides
+pub mod Links
 pub mod Chains
+pub mod Algebra

@@ -14,6 +14,8 @@ use Rattle.lists.specs.Members.{has}
 use Rattle.lists.proofs.Choice.{by-lt}
 use Rattle.lists.proofs.Rising.{rising-weaken}
 use Rattle.lists.proofs.Members.{has-none, has-here, has-past, has-below, has-beyond, same-members}
+use Rattle.rules.specs.Limits.{mostSteps}
+use Rattle.rules.specs.Listed.{Listed}
 use Rattle.pair.specs.declared.Operation.{Operation}
 use Rattle.pair.specs.declared.Operation.the-variants.{Both, Either, Without}
 use Rattle.pair.specs.Result.{keeps, sieve, resultOf}
@@ -105,3 +107,8 @@ has-result op xs ys u v z = by-lt z top (λ h. has-sieve top 0 p z (omega arith)
 
 pub result-is : (op : Operation) (xs ys : List ℕ) → Rising 0 xs → Rising 0 ys → Result op xs ys (resultOf op xs ys)
 result-is op xs ys u v = record { rising = rising-result op xs ys; members = has-result op xs ys u v }
+
+-- and it is one of document 01's lists if the two are and it has few enough steps
+pub result-listed : (op : Operation) {xs ys : List ℕ} → Listed xs → Listed ys → length (resultOf op xs ys) ≤ mostSteps → Listed (resultOf op xs ys)
+result-listed op {xs} {ys} l m few =
+    record { rising = rising-result op xs ys; small = beyond-result op xs ys _ (l .small) (m .small); few = few }

@@ -185,7 +185,7 @@ fn put_image(list: &[u32], work: &[u32], m: usize, out: &mut [u8])
 }
 
 // A refusal at a place.
-fn refuse(number: u32, place: usize) -> Counted
+pub fn refuse(number: u32, place: usize) -> Counted
     requires { ⌜ place < 2 ^ 32 ⌝ }
     ensures { λ r. ⌜ r ≡ Refused (refusal number place) ⌝ }
 {
