@@ -14,11 +14,10 @@ use Rattle.lists.proofs.Below.{below-drop, below-drop-none}
 use Rattle.rules.specs.Limits.{mostSteps}
 use Rattle.rules.specs.Refusals.{rankTooLarge, noSuchCursor, refusal}
 use Rattle.rules.specs.Paper.{Paper, accepting, refusing}
-use Rattle.image.specs.Verdict.{taken}
 use Rattle.image.proofs.Accepted.{verdict-accepted}
-use Rattle.read.specs.Inside.{listIn}
+use Rattle.image.specs.Taken.{stepsOf, Taken}
+use Rattle.image.proofs.Taken.{taken-is}
 use Rattle.read.proofs.Answers.{Yes}
-use Rattle.ask.specs.Search.{imageSteps, Taken}
 use Rattle.ask.specs.Rank as rank
 use Rattle.ask.specs.First as first
 use Rattle.ask.specs.Cursor as cursor
@@ -26,13 +25,13 @@ use Rattle.ask.specs.Cursor as cursor
 -- the check accepted: the image has `n` steps
 pub record Kept (s : List ℕ) (n : ℕ) : Type 0 where
   pub takes : Taken s
-  pub count : length (imageSteps s) ≡ n
+  pub count : length (stepsOf s) ≡ n
   pub few : n ≤ mostSteps
 
 pub kept : {s : List ℕ} {n : ℕ} → Yes s n → Kept s n
 kept {s} y =
-    let on : imageSteps s ≡ y .list = ap listIn (y .is) in
-    record { takes = y .is ∙ ap (λ (l : List ℕ). taken l) (sym on); count = ap length on ∙ y .count; few = y .few }
+    let t = taken-is s (y .list) (y .is) in
+    record { takes = t .0; count = ap length (t .1) ∙ y .count; few = y .few }
 
 -- ---- a bound
 
@@ -45,20 +44,20 @@ module _ (xs : List ℕ) (x : ℕ) where
   first-nothing q = sym (pick-no _ _ _ (le-ltb (below xs x) (length xs) (omega arith)))
 
 module _ {s : List ℕ} {n : ℕ} (y : Kept s n) where
-  pub first-taken : (x : ℕ) {p : Paper} → p ≡ first.atRank (imageSteps s) (below (imageSteps s) x) → p ≡ first.promised s x
+  pub first-taken : (x : ℕ) {p : Paper} → p ≡ first.atRank (stepsOf s) (below (stepsOf s) x) → p ≡ first.promised s x
   first-taken x q = q ∙ sym (ap (first.firstIn x) (y .takes))
 
   -- ---- a rank
 
-  pub rank-found : {k r : ℕ} → k < n → r ≡ getD (imageSteps s) k 0 → accepting (r ∷ []) ≡ rank.promised s k
+  pub rank-found : {k r : ℕ} → k < n → r ≡ getD (stepsOf s) k 0 → accepting (r ∷ []) ≡ rank.promised s k
   rank-found {k} {r} h e =
       ap (λ (t : ℕ). accepting (t ∷ [])) e
-      ∙ sym (ap (rank.rankIn k) (y .takes) ∙ pick-yes _ _ _ (lt-ltb k (length (imageSteps s)) (omega (arith, y .count))))
+      ∙ sym (ap (rank.rankIn k) (y .takes) ∙ pick-yes _ _ _ (lt-ltb k (length (stepsOf s)) (omega (arith, y .count))))
 
   pub rank-over : {k : ℕ} → n ≤ k → refusing rank.values (refusal rankTooLarge n) ≡ rank.promised s k
   rank-over {k} h =
       ap (λ (t : ℕ). refusing rank.values (refusal rankTooLarge t)) (sym (y .count))
-      ∙ sym (ap (rank.rankIn k) (y .takes) ∙ pick-no _ _ _ (le-ltb k (length (imageSteps s)) (omega (arith, y .count))))
+      ∙ sym (ap (rank.rankIn k) (y .takes) ∙ pick-no _ _ _ (le-ltb k (length (stepsOf s)) (omega (arith, y .count))))
 
   -- ---- a cursor
 
@@ -66,11 +65,11 @@ module _ {s : List ℕ} {n : ℕ} (y : Kept s n) where
   start-first = sym (ap cursor.startIn (y .takes))
 
   -- by whether the image has a cursor of this rank
-  over : {k : ℕ} (p : Paper) → n < k → cursor.onRank (imageSteps s) k p ≡ refusing cursor.values (refusal noSuchCursor 0)
-  over {k} p h = pick-yes _ _ _ (lt-ltb (length (imageSteps s)) k (omega (arith, y .count)))
+  over : {k : ℕ} (p : Paper) → n < k → cursor.onRank (stepsOf s) k p ≡ refusing cursor.values (refusal noSuchCursor 0)
+  over {k} p h = pick-yes _ _ _ (lt-ltb (length (stepsOf s)) k (omega (arith, y .count)))
 
-  within : {k : ℕ} {p : Paper} → k ≤ n → cursor.onRank (imageSteps s) k p ≡ p
-  within {k} h = pick-no _ _ _ (le-ltb (length (imageSteps s)) k (omega (arith, y .count)))
+  within : {k : ℕ} {p : Paper} → k ≤ n → cursor.onRank (stepsOf s) k p ≡ p
+  within {k} h = pick-no _ _ _ (le-ltb (length (stepsOf s)) k (omega (arith, y .count)))
 
   pub next-over : {k : ℕ} → n < k → refusing cursor.values (refusal noSuchCursor 0) ≡ cursor.nextPromise k s
   next-over {k} h = sym (ap (cursor.nextIn k) (y .takes) ∙ over _ h)
@@ -78,27 +77,27 @@ module _ {s : List ℕ} {n : ℕ} (y : Kept s n) where
   pub next-end : {k : ℕ} → n ≡ k → cursor.standing k ≡ cursor.nextPromise k s
   next-end {k} h =
       sym
-      (ap (cursor.nextIn k) (y .takes) ∙ within (omega arith) ∙ pick-no _ _ _ (le-ltb k (length (imageSteps s)) (omega (arith, y .count))))
+      (ap (cursor.nextIn k) (y .takes) ∙ within (omega arith) ∙ pick-no _ _ _ (le-ltb k (length (stepsOf s)) (omega (arith, y .count))))
 
-  pub next-found : {k r : ℕ} → k < n → r ≡ getD (imageSteps s) k 0 → cursor.giving r (k + 1) ≡ cursor.nextPromise k s
+  pub next-found : {k r : ℕ} → k < n → r ≡ getD (stepsOf s) k 0 → cursor.giving r (k + 1) ≡ cursor.nextPromise k s
   next-found {k} {r} h e =
       ap (λ (t : ℕ). cursor.giving t (k + 1)) e
       ∙ sym
-      (ap (cursor.nextIn k) (y .takes) ∙ within (omega arith) ∙ pick-yes _ _ _ (lt-ltb k (length (imageSteps s)) (omega (arith, y .count))))
+      (ap (cursor.nextIn k) (y .takes) ∙ within (omega arith) ∙ pick-yes _ _ _ (lt-ltb k (length (stepsOf s)) (omega (arith, y .count))))
 
   module _ (x : ℕ) where
     pub skip-over : {k : ℕ} → n < k → refusing cursor.values (refusal noSuchCursor 0) ≡ cursor.skipPromise k s x
     skip-over {k} h = sym (ap (cursor.skipIn k x) (y .takes) ∙ over _ h)
 
-    skips : {k : ℕ} → k ≤ n → cursor.skipPromise k s x ≡ cursor.standing (k + below (drop k (imageSteps s)) x)
+    skips : {k : ℕ} → k ≤ n → cursor.skipPromise k s x ≡ cursor.standing (k + below (drop k (stepsOf s)) x)
     skips {k} h = ap (cursor.skipIn k x) (y .takes) ∙ within h
 
     -- forward, and never back
-    pub skip-on : {k at : ℕ} → k ≤ n → at ≡ below (imageSteps s) x → k ≤ at → cursor.standing at ≡ cursor.skipPromise k s x
-    skip-on {k} {at} h e g = sym (skips h ∙ ap cursor.standing (below-drop (imageSteps s) k x (omega arith) ∙ sym e))
+    pub skip-on : {k at : ℕ} → k ≤ n → at ≡ below (stepsOf s) x → k ≤ at → cursor.standing at ≡ cursor.skipPromise k s x
+    skip-on {k} {at} h e g = sym (skips h ∙ ap cursor.standing (below-drop (stepsOf s) k x (omega arith) ∙ sym e))
 
-    pub skip-stay : {k at : ℕ} → Bytes s → k ≤ n → at ≡ below (imageSteps s) x → at < k → cursor.standing k ≡ cursor.skipPromise k s x
+    pub skip-stay : {k at : ℕ} → Bytes s → k ≤ n → at ≡ below (stepsOf s) x → at < k → cursor.standing k ≡ cursor.skipPromise k s x
     skip-stay {k} {at} w h e g =
-        let r : Rising 0 (imageSteps s) = verdict-accepted s (imageSteps s) w .0 (y .takes) .listed .rising in
-        let q : k + below (drop k (imageSteps s)) x ≡ k = omega (arith, below-drop-none 0 (imageSteps s) k x r (omega arith)) in
+        let r : Rising 0 (stepsOf s) = verdict-accepted s (stepsOf s) w .0 (y .takes) .listed .rising in
+        let q : k + below (drop k (stepsOf s)) x ≡ k = omega (arith, below-drop-none 0 (stepsOf s) k x r (omega arith)) in
         sym (skips h ∙ ap cursor.standing q)

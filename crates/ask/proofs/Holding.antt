@@ -19,11 +19,12 @@ use Rattle.image.specs.declared.Fault.the-variants.{Fine}
 use Rattle.image.specs.Entry.{entryPlace, payloadPlace, entriesAt, start, afterEntry}
 use Rattle.image.specs.Verdict.{taken, directoryOf, blocksOf}
 use Rattle.image.proofs.Verdict.{length-payload, peel}
+use Rattle.image.specs.Taken.{stepsOf, Taken, entriesIn, payloadIn}
 use Rattle.block.specs.Block.{stepsIn, Sound}
 use Rattle.block.proofs.Steps.{length-steps, below-within}
 use Rattle.ask.specs.declared.Spot.{Spot}
 use Rattle.ask.specs.declared.Spot.the-variants.{Block, Nowhere}
-use Rattle.ask.specs.Search.{imageSteps, Taken, entriesIn, payloadIn, partIn, Inside, spotIn, above, reaches}
+use Rattle.ask.specs.Search.{partIn, Inside, spotIn, above, reaches}
 use Rattle.ask.proofs.Landing.{Landed, Outcome, lands, reached-start, reached-rank, reached-below, reached-length}
 
 -- ---- an accepted image, taken apart
@@ -33,11 +34,11 @@ record Opened (s : List ℕ) (m : ℕ) : Type 0 where
   size : length s ≡ payloadPlace m + length (drop (payloadPlace m) s)
   few : length (drop (payloadPlace m) s) < 2 ^ 32
   fine : directoryOf (length (drop (payloadPlace m) s)) start 0 (entriesAt m s (entryPlace 0)) ≡ Fine
-  blocks : blocksOf (drop (payloadPlace m) s) start 0 (entriesAt m s (entryPlace 0)) ≡ taken (imageSteps s)
+  blocks : blocksOf (drop (payloadPlace m) s) start 0 (entriesAt m s (entryPlace 0)) ≡ taken (stepsOf s)
 
 opened : (s : List ℕ) → Bytes s → Taken s → Opened s (numberAt s 0)
 opened s w t =
-    let g = peel s (imageSteps s) t in
+    let g = peel s (stepsOf s) t in
     let n : length (drop (payloadPlace (g .m)) s) ≡ g .p = length-payload s (g .m) (g .p) (g .size) in
     subst (Opened s) (g .is-m)
     (record {
@@ -53,8 +54,8 @@ pub record Holds (s : List ℕ) (b : Before) (e : Entry) : Type 0 where
   pub sound : Sound b e (partIn s b e)
   pub order : b .upto ≤ e .upto
   pub few : e .upto ≤ mostSteps
-  pub within : e .upto ≤ length (imageSteps s)
-  pub at : (j : ℕ) → j < e .upto - b .upto → getD (imageSteps s) (b .upto + j) 0 ≡ getD (stepsIn b e (partIn s b e)) j 0
+  pub within : e .upto ≤ length (stepsOf s)
+  pub at : (j : ℕ) → j < e .upto - b .upto → getD (stepsOf s) (b .upto + j) 0 ≡ getD (stepsIn b e (partIn s b e)) j 0
 
 -- it holds the rank
 pub record RankIn (s : List ℕ) (k : ℕ) (b : Before) (e : Entry) : Type 0 where
@@ -66,7 +67,7 @@ pub record RankIn (s : List ℕ) (k : ℕ) (b : Before) (e : Entry) : Type 0 whe
 pub record BoundIn (s : List ℕ) (x : ℕ) (b : Before) (e : Entry) : Type 0 where
   pub holds : Holds s b e
   pub reach : x ≤ e .last
-  pub rank : below (imageSteps s) x ≡ b .upto + below (stepsIn b e (partIn s b e)) x
+  pub rank : below (stepsOf s) x ≡ b .upto + below (stepsIn b e (partIn s b e)) x
 
 module _ (s : List ℕ) (w : Bytes s) (t : Taken s) where
   -- the directory can be read
@@ -75,12 +76,12 @@ module _ (s : List ℕ) (w : Bytes s) (t : Taken s) where
 
   -- a search from the first block on
   outcome : (p : Entry → Bool) (q : Before → Type 0) → ((e : Entry) → p e ≡ false → q (afterEntry e)) → q start
-      → Outcome p q (payloadIn s) (imageSteps s) (spotIn p s)
+      → Outcome p q (payloadIn s) (stepsOf s) (spotIn p s)
   outcome p q fails h =
       let o = opened s w t in
-      lands p q fails (payloadIn s) (imageSteps s) (o .few) start 0 (entriesIn s) (imageSteps s) h (reached-start (imageSteps s)) (o .fine) (o .blocks)
+      lands p q fails (payloadIn s) (stepsOf s) (o .few) start 0 (entriesIn s) (stepsOf s) h (reached-start (stepsOf s)) (o .fine) (o .blocks)
 
-  holding : {p : Entry → Bool} {q : Before → Type 0} {b : Before} {e : Entry} → Landed p q (payloadIn s) (imageSteps s) b e → Holds s b e
+  holding : {p : Entry → Bool} {q : Before → Type 0} {b : Before} {e : Entry} → Landed p q (payloadIn s) (stepsOf s) b e → Holds s b e
   holding {p} {q} {b} {e} l =
       let us : List ℕ = stepsIn b e (partIn s b e) in
       let n : length us ≡ e .upto - b .upto = length-steps (l .sound) in
@@ -100,9 +101,9 @@ module _ (s : List ℕ) (w : Bytes s) (t : Taken s) where
   -- ---- a rank
 
   module _ (k : ℕ) where
-    ranks : {r : Spot} → spotIn (above k) s ≡ r → Outcome (above k) (λ (b : Before). b .upto ≤ k) (payloadIn s) (imageSteps s) r
+    ranks : {r : Spot} → spotIn (above k) s ≡ r → Outcome (above k) (λ (b : Before). b .upto ≤ k) (payloadIn s) (stepsOf s) r
     ranks f =
-        subst (Outcome (above k) (λ (b : Before). b .upto ≤ k) (payloadIn s) (imageSteps s)) f
+        subst (Outcome (above k) (λ (b : Before). b .upto ≤ k) (payloadIn s) (stepsOf s)) f
         (outcome (above k) (λ (b : Before). b .upto ≤ k) (λ e h. ltb-false k (e .upto) h) (omega arith))
 
     pub rank-in : {b : Before} {e : Entry} → spotIn (above k) s ≡ Block b e → RankIn s k b e
@@ -110,15 +111,15 @@ module _ (s : List ℕ) (w : Bytes s) (t : Taken s) where
         let l = ranks f in
         record { holds = holding l; from = l .from; upto = ltb-true k (e .upto) (l .test) }
 
-    pub rank-out : spotIn (above k) s ≡ Nowhere → length (imageSteps s) ≤ k
+    pub rank-out : spotIn (above k) s ≡ Nowhere → length (stepsOf s) ≤ k
     rank-out f = let l = ranks f in omega (arith, l .from, reached-length (l .reached))
 
   -- ---- a bound
 
   module _ (x : ℕ) where
-    bounds : {r : Spot} → spotIn (reaches x) s ≡ r → Outcome (reaches x) (λ (b : Before). b .next ≤ x) (payloadIn s) (imageSteps s) r
+    bounds : {r : Spot} → spotIn (reaches x) s ≡ r → Outcome (reaches x) (λ (b : Before). b .next ≤ x) (payloadIn s) (stepsOf s) r
     bounds f =
-        subst (Outcome (reaches x) (λ (b : Before). b .next ≤ x) (payloadIn s) (imageSteps s)) f
+        subst (Outcome (reaches x) (λ (b : Before). b .next ≤ x) (payloadIn s) (stepsOf s)) f
         (outcome (reaches x) (λ (b : Before). b .next ≤ x) (λ e h. omega (arith, leb-false x (e .last) h)) (omega arith))
 
     pub bound-in : {b : Before} {e : Entry} → spotIn (reaches x) s ≡ Block b e → BoundIn s x b e
@@ -133,7 +134,7 @@ module _ (s : List ℕ) (w : Bytes s) (t : Taken s) where
           rank = reached-below (l .reached) x (l .from) ∙ ap (λ (j : ℕ). b .upto + j) (below-left us (l .others) x n);
         }
 
-    pub bound-out : spotIn (reaches x) s ≡ Nowhere → below (imageSteps s) x ≡ length (imageSteps s)
+    pub bound-out : spotIn (reaches x) s ≡ Nowhere → below (stepsOf s) x ≡ length (stepsOf s)
     bound-out f =
         let l = bounds f in
         omega (arith, reached-below (l .reached) x (l .from), below-nil x, reached-length (l .reached))
@@ -144,14 +145,14 @@ module _ {s : List ℕ} {b : Before} {e : Entry} {p : List ℕ} (here : p ≡ pa
   pub held-sound : Holds s b e → Sound b e p
   held-sound h = subst (Sound b e) (sym here) (h .sound)
 
-  pub held-step : Holds s b e → {j r : ℕ} → j < e .upto - b .upto → r ≡ getD (stepsIn b e p) j 0 → r ≡ getD (imageSteps s) (b .upto + j) 0
+  pub held-step : Holds s b e → {j r : ℕ} → j < e .upto - b .upto → r ≡ getD (stepsIn b e p) j 0 → r ≡ getD (stepsOf s) (b .upto + j) 0
   held-step h {j} {r} l q = q ∙ ap (λ (z : List ℕ). getD (stepsIn b e z) j 0) here ∙ sym (h .at j l)
 
-  pub rank-step : {k r : ℕ} → RankIn s k b e → r ≡ getD (stepsIn b e p) (k - b .upto) 0 → r ≡ getD (imageSteps s) k 0
+  pub rank-step : {k r : ℕ} → RankIn s k b e → r ≡ getD (stepsIn b e p) (k - b .upto) 0 → r ≡ getD (stepsOf s) k 0
   rank-step {k} {r} l q =
       let z : b .upto + (k - b .upto) ≡ k = omega (arith, l .from) in
-      held-step (l .holds) (omega (arith, l .from, l .upto)) q ∙ ap (λ (n : ℕ). getD (imageSteps s) n 0) z
+      held-step (l .holds) (omega (arith, l .from, l .upto)) q ∙ ap (λ (n : ℕ). getD (stepsOf s) n 0) z
 
-  pub bound-rank : {x j : ℕ} → BoundIn s x b e → j ≡ below (stepsIn b e p) x → b .upto + j ≡ below (imageSteps s) x
+  pub bound-rank : {x j : ℕ} → BoundIn s x b e → j ≡ below (stepsIn b e p) x → b .upto + j ≡ below (stepsOf s) x
   bound-rank {x} {j} l q =
       omega (arith, l .rank, q ∙ ap (λ (z : List ℕ). below (stepsIn b e z) x) here)

@@ -3,32 +3,16 @@ use mathlib.Core.Bool.{Bool}
 use mathlib.Core.List.{List, [], _∷_}
 use Prim.Native.Nat.{ℕ, _+_, _≤_}
 use lib.Dec.{ltb, leb}
-use lib.ListN.{length, drop}
+use lib.ListN.{length}
 use Rattle.lists.specs.Choice.{pick}
 use Rattle.lists.specs.Parts.{part}
 use Rattle.rules.specs.Numbers.{numberAt}
 use Rattle.image.specs.declared.Entry.{Entry}
 use Rattle.image.specs.declared.Before.{Before}
-use Rattle.image.specs.Entry.{entryPlace, payloadPlace, entriesAt, start, afterEntry}
-use Rattle.image.specs.Verdict.{verdict}
-use Rattle.read.specs.Inside.{listIn, Takes}
+use Rattle.image.specs.Entry.{payloadPlace, start, afterEntry}
+use Rattle.image.specs.Taken.{entriesIn, payloadIn}
 use Rattle.ask.specs.declared.Spot.{Spot}
 use Rattle.ask.specs.declared.Spot.the-variants.{Block, Nowhere}
-
--- the steps of an image
-abbrev pub imageSteps : List ℕ → List ℕ
-imageSteps s = listIn (verdict s)
-
--- the image is accepted
-abbrev pub Taken : List ℕ → Type 0
-Taken s = Takes (verdict s)
-
--- its entries, and its payload
-abbrev pub entriesIn : List ℕ → List Entry
-entriesIn s = entriesAt (numberAt s 0) s (entryPlace 0)
-
-abbrev pub payloadIn : List ℕ → List ℕ
-payloadIn s = drop (payloadPlace (numberAt s 0)) s
 
 -- a block's part of the payload
 abbrev pub partIn : List ℕ → Before → Entry → List ℕ

@@ -9,7 +9,8 @@ ghost use lib.ListN.{length, getD};
 ghost use Rattle.lists.specs.Below.{below};
 ghost use Rattle.rules.specs.Numbers.{numberAt};
 ghost use Rattle.image.specs.Entry.{entryPlace};
-ghost use Rattle.ask.specs.Search.{imageSteps, Taken, partIn, Inside, spotIn, above, reaches};
+ghost use Rattle.image.specs.Taken.{stepsOf, Taken};
+ghost use Rattle.ask.specs.Search.{partIn, Inside, spotIn, above, reaches};
 ghost use Rattle.ask.specs.Rank as rank;
 ghost use Rattle.ask.specs.First as first;
 ghost use Rattle.ask.specs.Cursor.{nextPaper, placedPaper, startPromise, nextPromise, skipPromise};
@@ -134,8 +135,8 @@ fn part_of<'a>(image: &'a [u8], b: Before, e: Entry) -> &'a [u8]
 
 // The step at a rank of an image that was accepted.
 fn step_at(image: &[u8], k: usize) -> usize
-    requires { ⌜ Taken (now image) × (k < length (imageSteps (now image))) ⌝ }
-    ensures { λ r. ⌜ (r ≡ getD (imageSteps (now (image .entry))) k 0) × (r < 2 ^ 32) ⌝ }
+    requires { ⌜ Taken (now image) × (k < length (stepsOf (now image))) ⌝ }
+    ensures { λ r. ⌜ (r ≡ getD (stepsOf (now (image .entry))) k 0) × (r < 2 ^ 32) ⌝ }
 {
     let s = find_rank(image, k);
     match s {
@@ -149,8 +150,8 @@ fn step_at(image: &[u8], k: usize) -> usize
 
 // How many steps of an image that was accepted stand before the first at or after x; n is how many it has.
 fn below_at(image: &[u8], n: usize, x: usize) -> usize
-    requires { ⌜ Taken (now image) × (length (imageSteps (now image)) ≡ n) ⌝ }
-    ensures { λ r. ⌜ r ≡ below (imageSteps (now (image .entry))) x ⌝ }
+    requires { ⌜ Taken (now image) × (length (stepsOf (now image)) ≡ n) ⌝ }
+    ensures { λ r. ⌜ r ≡ below (stepsOf (now (image .entry))) x ⌝ }
 {
     let s = find_bound(image, x);
     match s {
@@ -165,7 +166,7 @@ fn below_at(image: &[u8], n: usize, x: usize) -> usize
 // The first step at or after x of an image that was accepted, with its rank, or nothing.
 fn first_in(image: &[u8], x: usize) -> First
     requires { ⌜ Taken (now image) ⌝ }
-    ensures { λ r. ⌜ first.paperOf r ≡ first.atRank (imageSteps (now (image .entry))) (below (imageSteps (now (image .entry))) x) ⌝ }
+    ensures { λ r. ⌜ first.paperOf r ≡ first.atRank (stepsOf (now (image .entry))) (below (stepsOf (now (image .entry))) x) ⌝ }
 {
     let s = find_bound(image, x);
     match s {

@@ -24,13 +24,14 @@ use Rattle.image.specs.Block.{steps}
 use Rattle.image.proofs.Directory.{Clean}
 use Rattle.image.proofs.Found.{part-codes, part-row, codes-found, row-found}
 use Rattle.image.proofs.Blocks.{Good, block-good}
-use Rattle.block.specs.Block.{stepsOf, stepsIn, Sound, FirstIn}
+use Rattle.image.specs.Taken.{stepsFound}
+use Rattle.block.specs.Block.{stepsIn, Sound, FirstIn}
 
 -- ---- a block that stands for its steps
 
 module _ {b : Before} {e : Entry} {part : List ℕ} (g : Good b e part) where
   pub steps-good : stepsIn b e part ≡ g .list
-  steps-good = ap stepsOf (g .is)
+  steps-good = ap stepsFound (g .is)
 
   -- and whose entry has no fault
   pub sound-good : {p : ℕ} → Clean p b e → length part < 2 ^ 32 → Sound b e part

@@ -1,22 +1,18 @@
 -- One block that was checked, as a list of steps, and what is asked of it.
 use mathlib.Core.Path.{_≡_}
-use mathlib.Core.List.{List, []}
+use mathlib.Core.List.{List}
 use Prim.Native.Nat.{ℕ, _-_, _^_, _≤_, _<_}
 use lib.ListN.{length, getD}
 use Rattle.lists.specs.Below.{below}
 use Rattle.rules.specs.Limits.{largestStep}
 use Rattle.image.specs.declared.Entry.{Entry}
 use Rattle.image.specs.declared.Before.{Before}
-use Rattle.image.specs.Block.{Found, steps, wrong, blockOf}
-
--- the steps that were found, where a block has them
-abbrev pub stepsOf : Found → List ℕ
-stepsOf (steps xs) = xs
-stepsOf (wrong n) = []
+use Rattle.image.specs.Block.{steps, blockOf}
+use Rattle.image.specs.Taken.{stepsFound}
 
 -- the steps of the block of an entry, after `b`, in its part of the payload
 abbrev pub stepsIn : Before → Entry → List ℕ → List ℕ
-stepsIn b e part = stepsOf (blockOf b e part)
+stepsIn b e part = stepsFound (blockOf b e part)
 
 -- a block that passed its checks, and what the directory says of it
 pub record Sound (b : Before) (e : Entry) (part : List ℕ) : Type 0 where

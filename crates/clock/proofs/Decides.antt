@@ -3,12 +3,10 @@
 use mathlib.Core.Path.{_≡_, sym, ap, _∙_}
 use Prim.Native.Nat.{ℕ}
 use Rattle.rules.proofs.Paper.{paper-apart, paper-values, paper-refusal}
-use Rattle.clock.specs.declared.Time.{Time}
 use Rattle.clock.specs.declared.Clocked.{Clocked}
 use Rattle.clock.specs.declared.Clocked.the-variants.{At, Refused}
 use Rattle.clock.specs.Clock.{values, paperOf, promised}
 use lib.ListN.{getD}
-use mathlib.Core.List.{List}
 
 -- an answer is known by document 01's numbers
 pub paper-one : (a b : Clocked) → paperOf a ≡ paperOf b → a ≡ b

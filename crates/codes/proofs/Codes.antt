@@ -212,3 +212,12 @@ steps-written o part xs w e = by (valuesFrom part 0) refl e
         let f : fromGaps o vs ≡ xs = cc in
         rw (← f) (ap codesOf (gaps-from-gaps o vs) ∙ sym (values-sound part 0 vs w q .0), rising-from-gaps o vs)
     by (bad v n) q p = bad-all p
+
+pub length-codes-nil : (o : ℕ) → length (codesFor o []) ≡ 0
+length-codes-nil o = ap length (codes-nil o)
+
+pub length-codes-append : (o : ℕ) (xs ys : List ℕ)
+    → length (codesFor o (xs ++ ys)) ≡ length (codesFor o xs) + length (codesFor (beyond o xs) ys)
+length-codes-append o [] ys = omega (arith, length-codes-nil o)
+length-codes-append o (x ∷ xs) ys =
+    omega (arith, length-codes-cons o x (xs ++ ys), length-codes-cons o x xs, length-codes-append (suc x) xs ys)

@@ -3,8 +3,9 @@
 use mathlib.Core.Path.{_≡_, refl, sym, subst}
 use mathlib.Core.List.{List, [], _∷_}
 use mathlib.Core.Logic.{_⊎_, inl, inr}
-use Prim.Native.Nat.{ℕ, _≤_, _<_}
+use Prim.Native.Nat.{ℕ, _+_, _≤_, _<_}
 use native.Mathlib.Omega.{arith}
+use lib.ListN.{length}
 use Rattle.lists.proofs.Choice.{order}
 use Rattle.cut.specs.Cut.{number, Block, Cuts, Earlier}
 use Rattle.cut.proofs.Blocks.{block-eq}
@@ -49,3 +50,8 @@ earlier-total i n (a ∷ xs) (b ∷ ys) c d =
     by-upto (inl h) r = inr (inr (inl h))
     by-upto (inr (inl h)) r = by-number (order (number (a .kind)) (number (b .kind))) h (r h)
     by-upto (inr (inr h)) r = inl (inl h)
+
+-- a cut has at most as many blocks as there are positions
+pub cuts-length : (i n : ℕ) (bs : List Block) → Cuts i n bs → i + length bs ≤ n
+cuts-length i n [] c = omega arith
+cuts-length i n (b ∷ bs) c = omega (arith, c .0, cuts-length (b .upto) n bs (c .1))

@@ -18,14 +18,14 @@ use Rattle.rules.specs.Limits.Laws.{most-counted}
 use Rattle.rules.proofs.Numbers.{number-read, bytes-little}
 use Rattle.cut.specs.Cut.{Block, Cuts}
 use Rattle.cut.proofs.Blocks.{number-le, block-eq}
-use Rattle.cut.proofs.Cuts.{cuts-le}
+use Rattle.cut.proofs.Cuts.{cuts-le, cuts-length}
 use Rattle.image.specs.declared.Entry.{Entry}
 use Rattle.image.specs.declared.Before.{Before}
 use Rattle.image.specs.Entry.{entryPlace, payloadPlace, entryBytes, directoryBytes, entriesAt, afterEntry}
 use Rattle.image.specs.Grammar.{partOf, payloadOf, entryOf, entriesOf, imageOf}
 use Rattle.image.proofs.Entries.{length-directory, bytes-entry, drop-number, entries-read}
 use Rattle.image.proofs.Parts.{bytes-bytes-of}
-use Rattle.image.proofs.Sizes.{length-entries-of, cuts-length, payload-fits, narrow-entries}
+use Rattle.image.proofs.Sizes.{length-entries-of, payload-fits, narrow-entries}
 
 module _ (xs : List ℕ) (cut : List Block) where
   -- the second section: the count of payload bytes, and these

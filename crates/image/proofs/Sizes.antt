@@ -23,11 +23,6 @@ use Rattle.image.specs.Grammar.{partOf, payloadOf, entryOf, entriesOf, i
 use Rattle.image.proofs.Entries.{Narrows, length-directory}
 use Rattle.image.proofs.Parts.{length-bytes-of-least, length-bytes-of-most}
 
--- a cut has at most as many blocks as there are positions
-pub cuts-length : (i n : ℕ) (bs : List Block) → Cuts i n bs → i + length bs ≤ n
-cuts-length i n [] c = omega arith
-cuts-length i n (b ∷ bs) c = omega (arith, c .0, cuts-length (b .upto) n bs (c .1))
-
 module _ (xs : List ℕ) where
   pub length-entries-of : (i e : ℕ) (bs : List Block) → length (entriesOf xs i e bs) ≡ length bs
   length-entries-of i e [] = refl

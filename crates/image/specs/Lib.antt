@@ -2,3 +2,4 @@ pub mod Entry
 pub mod Grammar
 pub mod Block
 pub mod Verdict
+pub mod Taken

@@ -3,7 +3,7 @@
 ghost use mathlib.Core.Path.{_≡_};
 ghost use Rattle.rules.specs.Numbers.{numberAt};
 ghost use Rattle.image.specs.Verdict.{verdict};
-ghost use Rattle.read.specs.Inside.{Takes};
+ghost use Rattle.image.specs.Taken.{Takes};
 use libc::STDOUT_FILENO;
 use listing::Contents;
 use listing::Line;

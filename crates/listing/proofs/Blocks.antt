@@ -13,7 +13,8 @@ use Rattle.image.specs.Entry.{afterEntry}
 use Rattle.image.specs.Verdict.{blocksOf}
 use Rattle.image.proofs.Directory.{Clean}
 use Rattle.image.proofs.Blocks.{Good}
-use Rattle.read.specs.Inside.{Takes, Fitting, Ready}
+use Rattle.image.specs.Taken.{Takes}
+use Rattle.read.specs.Inside.{Fitting, Ready}
 use Rattle.read.proofs.Ahead.{left, left-start, Ahead, ahead-start, ahead-clean, ahead-next, ahead-fitting, takes-list, split-here}
 use Rattle.listing.specs.Listing.{entryOf, beforeAt}
 

@@ -8,7 +8,7 @@ use Rattle.rules.specs.Numbers.{numberAt}
 use Rattle.rules.specs.Paper.{accepting}
 use Rattle.rules.proofs.Paper.{paper-apart, paper-values}
 use Rattle.image.specs.Verdict.{Verdict, taken, refused, verdict}
-use Rattle.read.specs.Inside.{Takes}
+use Rattle.image.specs.Taken.{Takes}
 use Rattle.read.proofs.Answers.{Yes}
 use Rattle.read.proofs.Ahead.{takes-list}
 use Rattle.listing.specs.declared.Contents.{Contents}

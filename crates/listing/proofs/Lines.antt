@@ -14,7 +14,7 @@ use Rattle.image.specs.declared.Before.{Before}
 use Rattle.image.specs.declared.Entry.{Entry}
 use Rattle.image.specs.Entry.{payloadPlace}
 use Rattle.image.specs.Block.{Found, blockOf}
-use Rattle.read.specs.Inside.{stepsOf}
+use Rattle.image.specs.Taken.{stepsFound}
 use Rattle.read.proofs.ByKind.{stands-steps}
 use Rattle.listing.specs.Listing.{entryOf, beforeAt, payloadOf, lineIn, lineAt, Some}
 use Rattle.listing.proofs.Blocks.{Whole}
@@ -24,15 +24,15 @@ module _ {pay : List ℕ} {b : Before} {e : Entry} (w : Whole pay b e) where
   whole-some =
       record {
         good = stands-steps (w .good .is);
-        some = omega (arith, ap (λ (f : Found). length (stepsOf f)) (w .good .is), w .good .count, w .clean .upto);
+        some = omega (arith, ap (λ (f : Found). length (stepsFound f)) (w .good .is), w .good .count, w .clean .upto);
       }
 
-  pub line-whole : (i first : ℕ) → first ≡ getD (stepsOf (blockOf b e (part pay (b .end) (e .end)))) 0 0
+  pub line-whole : (i first : ℕ) → first ≡ getD (stepsFound (blockOf b e (part pay (b .end) (e .end)))) 0 0
       → record { number = i; kind = e .kind; first = first; last = e .last; steps = e .upto - b .upto; bytes = e .end - b .end }
       ≡ lineIn i b e pay
   line-whole i first h =
-      let xs : List ℕ = stepsOf (blockOf b e (part pay (b .end) (e .end))) in
-      let on : xs ≡ w .good .list = ap stepsOf (w .good .is) in
+      let xs : List ℕ = stepsFound (blockOf b e (part pay (b .end) (e .end))) in
+      let on : xs ≡ w .good .list = ap stepsFound (w .good .is) in
       let n : e .upto - b .upto ≡ length xs = sym (ap length on ∙ w .good .count) in
       let l : e .last ≡ getD xs (length xs - 1) 0 =
       omega (arith, beyond-last (b .next) xs (whole-some .some), ap (beyond (b .next)) on, w .good .last)

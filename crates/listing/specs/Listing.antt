@@ -10,7 +10,8 @@ use Rattle.image.specs.declared.Entry.{Entry}
 use Rattle.image.specs.Entry.{entryPlace, payloadPlace, entryAt, start, afterEntry}
 use Rattle.image.specs.Block.{Found, blockOf}
 use Rattle.image.specs.Verdict.{Verdict, taken, refused, verdict}
-use Rattle.read.specs.Inside.{stepsOf, Stands}
+use Rattle.image.specs.Taken.{stepsFound}
+use Rattle.read.specs.Inside.{Stands}
 use Rattle.listing.specs.declared.Contents.{Contents}
 use Rattle.listing.specs.declared.Contents.the-variants.{Holds, Refused}
 use Rattle.listing.specs.declared.Line.{Line}
@@ -52,7 +53,7 @@ lineOf i kind xs bytes =
 -- the line of a block that stands after `b` in a payload
 abbrev pub lineIn : ℕ → Before → Entry → List ℕ → Line
 lineIn i b e pay =
-    lineOf i (e .kind) (stepsOf (blockOf b e (part pay (b .end) (e .end)))) (part pay (b .end) (e .end))
+    lineOf i (e .kind) (stepsFound (blockOf b e (part pay (b .end) (e .end)))) (part pay (b .end) (e .end))
 
 -- the line of block i of an image
 unfoldable pub lineAt : List ℕ → ℕ → Line
@@ -61,4 +62,4 @@ lineAt s i = lineIn i (beforeAt s i) (entryOf s i) (payloadOf s)
 -- a block that was checked and has a step
 pub record Some (f : Found) : Type 0 where
   pub good : Stands f
-  pub some : 0 < length (stepsOf f)
+  pub some : 0 < length (stepsFound f)

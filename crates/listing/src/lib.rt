@@ -7,7 +7,8 @@ ghost use Rattle.rules.specs.Numbers.{numberAt};
 ghost use Rattle.image.specs.Entry.{entryPlace};
 ghost use Rattle.image.specs.Block.{blockOf};
 ghost use Rattle.image.specs.Verdict.{verdict};
-ghost use Rattle.read.specs.Inside.{stepsOf, Takes, Fitting};
+ghost use Rattle.image.specs.Taken.{stepsFound, Takes};
+ghost use Rattle.read.specs.Inside.{Fitting};
 ghost use Rattle.listing.specs.Listing.{paperOf, contentsPromise, beforeAt, lineAt, Some};
 use image::Before;
 use image::Entry;
@@ -71,7 +72,7 @@ fn before(image: &[u8], i: usize) -> Before
 // The first step of a block that was checked and has a step.
 fn first_in(part: &[u8], b: Before, e: Entry) -> usize
     requires { ⌜ Fitting b e (now part) × Some (blockOf b e (now part)) ⌝ }
-    ensures { λ r. ⌜ r ≡ getD (stepsOf (blockOf b e (now (part .entry)))) 0 0 ⌝ }
+    ensures { λ r. ⌜ r ≡ getD (stepsFound (blockOf b e (now (part .entry)))) 0 0 ⌝ }
 {
     let from = b.next;
     if e.kind == CODES {

@@ -1,10 +1,10 @@
 -- Laws of lists of bytes: parts of them and appending.
 -- Assumes nothing.
 use mathlib.Core.List.{List, [], _∷_, _++_}
-use Prim.Native.Nat.{ℕ, zero, suc, _+_, _-_, _<_, _≤_}
+use Prim.Native.Nat.{ℕ, zero, suc, _+_, _-_, _<_}
 use native.Mathlib.Omega.{arith}
 use native.Mathlib.Decide.{decLt}
-use lib.ListN.{length, getD, take, drop, length-take, List·getD-eq-default}
+use lib.ListN.{take, drop, length-take, List·getD-eq-default}
 use lib.Seq.{getD-drop, getD-take}
 use Rattle.lists.specs.Bytes.{Bytes, byteValues}
 use Rattle.lists.specs.Parts.{part}

@@ -14,6 +14,11 @@ pick-yes b x y e = rw e
 pub pick-no : {X : Type 0} (b : Bool) (x y : X) → b ≡ false → pick b x y ≡ y
 pick-no b x y e = rw e
 
+-- what holds of both sides of a choice holds of the choice
+pub either-way : {A : Type 0} (P : A → Type 0) (b : Bool) {x y : A} → P x → P y → P (pick b x y)
+either-way P true p q = p
+either-way P false p q = q
+
 -- by whether `a` is below `b`
 pub by-lt : {X : Type 0} (a b : ℕ) → (a < b → X) → (b ≤ a → X) → X
 by-lt a b f g = elim (decLt a b) [ yes h ↦ f h | no h ↦ g (omega arith) ]

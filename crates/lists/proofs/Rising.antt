@@ -1,10 +1,10 @@
 -- Laws of rising lists: their end, their length, appending, and parts of them.
 -- Assumes nothing.
-use mathlib.Core.Path.{_≡_, refl, sym, ap, _∙_}
+use mathlib.Core.Path.{_≡_, refl, ap, _∙_}
 use mathlib.Core.List.{List, [], _∷_, _++_, map}
 use Prim.Native.Nat.{ℕ, zero, suc, _+_, _-_, _≤_, _<_}
 use native.Mathlib.Omega.{arith}
-use lib.ListN.{length, getD, take, drop}
+use lib.ListN.{length, getD, take}
 use Rattle.lists.specs.Rising.{Rising, beyond}
 
 pub rising-weaken : {o p : ℕ} (xs : List ℕ) → o ≤ p → Rising p xs → Rising o xs

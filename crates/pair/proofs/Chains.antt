@@ -5,9 +5,7 @@ use mathlib.Core.Path.{_≡_, refl, sym, ap, _∙_, subst}
 use mathlib.Core.Bool.{Bool}
 use mathlib.Core.List.{List}
 use Prim.Native.Nat.{ℕ, _≤_}
-use native.Mathlib.Omega.{arith}
 use lib.ListN.{length}
-use Rattle.lists.specs.Rising.{Rising, beyond}
 use Rattle.lists.specs.Members.{has}
 use Rattle.lists.proofs.Members.{same-members}
 use Rattle.rules.specs.Listed.{Listed}

@@ -1,10 +1,9 @@
 -- The promise of an operation on two images decides its answer and what every lent buffer then holds; and where it accepts, it is a link of
 -- a chain.
 -- Assumes nothing.
-use mathlib.Core.Path.{_≡_, refl, sym, ap, _∙_}
+use mathlib.Core.Path.{_≡_, sym, _∙_}
 use mathlib.Core.List.{List}
 use Prim.Native.Nat.{ℕ}
-use lib.ListN.{length}
 use Rattle.write.specs.declared.Counted.{Counted}
 use Rattle.write.proofs.Decides.{paper-one}
 use Rattle.pair.specs.declared.Operation.{Operation}

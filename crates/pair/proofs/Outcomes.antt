@@ -16,7 +16,7 @@ use Rattle.rules.specs.Refusals.{tooManySteps, stepsTooShort, workTooShort, ref
 use Rattle.rules.specs.declared.Refusal.{Refusal}
 use Rattle.rules.specs.Listed.{Listed}
 use Rattle.image.specs.Verdict.{Verdict, taken, refused, verdict}
-use Rattle.walk.specs.Blocks.{stepsOf, Taken}
+use Rattle.image.specs.Taken.{stepsOf, Taken}
 use Rattle.write.specs.declared.Counted.{Counted}
 use Rattle.write.specs.declared.Counted.the-variants.{Refused}
 use Rattle.write.specs.Written.{imageFor}

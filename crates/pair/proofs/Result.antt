@@ -2,8 +2,8 @@
 -- than they do, and has no more steps than both together.
 -- Assumes nothing.
 use mathlib.Core.Path.{_≡_, refl, sym, ap, _∙_}
-use mathlib.Core.Bool.{Bool, true, false, _&&_, _||_, not}
-use mathlib.Core.List.{List, [], _∷_}
+use mathlib.Core.Bool.{Bool, true, false}
+use mathlib.Core.List.{List, _∷_}
 use Prim.Native.Nat.{ℕ, zero, suc, _+_, _≤_, _<_, max}
 use native.Mathlib.Omega.{arith}
 use native.Mathlib.Decide.{ℕ-discrete}
@@ -13,7 +13,7 @@ use Rattle.lists.specs.Rising.{Rising, beyond}
 use Rattle.lists.specs.Members.{has}
 use Rattle.lists.proofs.Choice.{by-lt}
 use Rattle.lists.proofs.Rising.{rising-weaken}
-use Rattle.lists.proofs.Members.{has-none, has-here, has-past, has-below, has-beyond, same-members}
+use Rattle.lists.proofs.Members.{has-here, has-past, has-below, has-beyond, same-members}
 use Rattle.rules.specs.Limits.{mostSteps}
 use Rattle.rules.specs.Listed.{Listed}
 use Rattle.pair.specs.declared.Operation.{Operation}

@@ -1,7 +1,7 @@
 -- A turn of a merge: the result of an operation by the first steps of the two lists.
 -- Assumes nothing.
 use mathlib.Core.Path.{_≡_, refl, sym, ap, _∙_}
-use mathlib.Core.Bool.{Bool, true, false, _&&_, _||_, not}
+use mathlib.Core.Bool.{Bool, true, false}
 use mathlib.Core.List.{List, [], _∷_}
 use Prim.Native.Nat.{ℕ, zero, suc, _+_, _≤_, _<_}
 use native.Mathlib.Omega.{arith}
@@ -10,11 +10,11 @@ use lib.ListN.{length}
 use Rattle.lists.specs.Rising.{Rising}
 use Rattle.lists.specs.Members.{has}
 use Rattle.lists.proofs.Rising.{rising-weaken}
-use Rattle.lists.proofs.Members.{has-none, has-here, has-past, has-below}
+use Rattle.lists.proofs.Members.{has-here, has-past, has-below}
 use Rattle.pair.specs.declared.Operation.{Operation}
 use Rattle.pair.specs.Result.{keeps, sieve, resultOf}
 use Rattle.pair.specs.Merge.{kept}
-use Rattle.pair.proofs.Result.{keeps-none, Result, result-one, result-is, rising-result, has-result}
+use Rattle.pair.proofs.Result.{keeps-none, result-one, result-is, rising-result, has-result}
 
 -- a rising list that has nothing below `o` begins there at the earliest
 pub rising-from : (o : ℕ) (xs : List ℕ) → Rising 0 xs → ((z : ℕ) → z < o → has z xs ≡ false) → Rising o xs

@@ -13,11 +13,10 @@ use borrow.Author.Tests.{eq-eqb, ne-eqb}
 use Rattle.lists.specs.Bytes.{Bytes}
 use Rattle.lists.proofs.Choice.{by-lt}
 use Rattle.rules.specs.Limits.{mostSteps}
-use Rattle.rules.specs.Listed.{Listed}
-use Rattle.image.specs.Verdict.{verdict, taken}
-use Rattle.image.proofs.Accepted.{verdict-accepted}
+use Rattle.image.proofs.Taken.{steps-listed}
+use Rattle.image.specs.Taken.{stepsOf, Taken}
 use Rattle.walk.specs.declared.Walk.{Walk}
-use Rattle.walk.specs.Blocks.{noStep, stepsOf, Taken}
+use Rattle.walk.specs.Blocks.{noStep}
 use Rattle.walk.specs.Walk.{ahead, Stands, Passes}
 use Rattle.walk.proofs.Shapes.{ahead-step, ahead-none}
 use Rattle.pair.specs.declared.Operation.{Operation}
@@ -25,10 +24,6 @@ use Rattle.pair.specs.Result.{keeps, resultOf}
 use Rattle.pair.specs.Merge.{headOf, pastOf, kept}
 use Rattle.pair.proofs.Turns.{length-result}
 use Rattle.pair.proofs.Merging.{Below, past-below, past-length, past-less, merge-turn, merge-end}
-
--- the steps of an accepted image are those of one of document 01's lists
-pub steps-listed : (s : List ℕ) → Bytes s → Taken s → Listed (stepsOf s)
-steps-listed s w t = verdict-accepted s (stepsOf s) w .0 t .listed
 
 -- ---- one walk
 

@@ -6,7 +6,7 @@ ghost use mathlib.Core.List.{_++_};
 ghost use Prim.Native.Nat.{_≤_, min};
 ghost use lib.ListN.{length, drop};
 ghost use Rattle.rules.specs.Refusals.{onSide};
-ghost use Rattle.walk.specs.Blocks.{stepsOf, Taken};
+ghost use Rattle.image.specs.Taken.{stepsOf, Taken};
 ghost use Rattle.write.specs.declared.Counted.the-variants.{Refused};
 ghost use Rattle.pair.specs.declared.Operation.the-variants.{Both, Either, Without};
 ghost use Rattle.pair.specs.Result.{keeps, resultOf};

@@ -1,31 +1,22 @@
 -- What blocks cost: codes add up step by step, and a row costs by where it begins and ends.
 -- Assumes nothing.
 use mathlib.Core.Path.{_≡_, sym, ap, _∙_}
-use mathlib.Core.List.{List, [], _∷_, _++_}
+use mathlib.Core.List.{List, []}
 use Prim.Native.Nat.{ℕ, suc, _+_, _-_, _≤_, _<_}
 use native.Mathlib.Omega.{arith}
 use lib.ListN.{length, getD}
-use Rattle.lists.specs.Rising.{beyond, past}
+use Rattle.lists.specs.Rising.{past}
 use Rattle.lists.specs.Parts.{part}
 use Rattle.lists.proofs.Parts.{part-append, part-one}
 use Rattle.lists.proofs.Ranks.{beyond-part}
 use Rattle.rules.specs.Sizes.{entrySize}
 use Rattle.code.specs.Code.{codeSize}
 use Rattle.codes.specs.Codes.{codesFor}
-use Rattle.codes.proofs.Codes.{codes-nil, length-codes-cons}
+use Rattle.codes.proofs.Codes.{length-codes-nil, length-codes-cons, length-codes-append}
 use Rattle.row.specs.Row.{rowSize}
 use Rattle.row.proofs.Written.{length-row}
 use Rattle.cut.specs.Cut.{row}
 use Rattle.plan.specs.Cost.{cost}
-
-length-codes-nil : (o : ℕ) → length (codesFor o []) ≡ 0
-length-codes-nil o = ap length (codes-nil o)
-
-length-codes-append : (o : ℕ) (xs ys : List ℕ)
-    → length (codesFor o (xs ++ ys)) ≡ length (codesFor o xs) + length (codesFor (beyond o xs) ys)
-length-codes-append o [] ys = omega (arith, length-codes-nil o)
-length-codes-append o (x ∷ xs) ys =
-    omega (arith, length-codes-cons o x (xs ++ ys), length-codes-cons o x xs, length-codes-append (suc x) xs ys)
 
 module _ (xs : List ℕ) where
   -- the bytes of the codes of the steps from rank `i` up to rank `j`

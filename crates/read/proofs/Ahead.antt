@@ -17,7 +17,8 @@ use Rattle.image.specs.Verdict.{Verdict, taken, directoryOf, blocksOf}
 use Rattle.image.proofs.Entries.{entries-here}
 use Rattle.image.proofs.Directory.{Clean, directory-clean}
 use Rattle.image.proofs.Blocks.{Split, split}
-use Rattle.read.specs.Inside.{listIn, Takes, Fitting, Sound}
+use Rattle.image.specs.Taken.{listIn, Takes}
+use Rattle.read.specs.Inside.{Fitting, Sound}
 
 -- the entries from number `i` on
 abbrev pub left : List ℕ → ℕ → ℕ → List Entry

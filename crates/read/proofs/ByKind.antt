@@ -13,23 +13,24 @@ use Rattle.image.specs.declared.Before.{Before}
 use Rattle.image.specs.Block.{Found, steps, blockOf}
 use Rattle.image.proofs.Found.{part-codes, part-row, codes-found, row-found}
 use Rattle.image.proofs.Blocks.{Good, block-good}
-use Rattle.read.specs.Inside.{stepsOf, Stands, Fitting}
+use Rattle.image.specs.Taken.{stepsFound}
+use Rattle.read.specs.Inside.{Stands, Fitting}
 
 pub stands-steps : {f : Found} {xs : List ℕ} → f ≡ steps xs → Stands f
-stands-steps q = q ∙ ap (λ (l : List ℕ). steps l) (sym (ap stepsOf q))
+stands-steps q = q ∙ ap (λ (l : List ℕ). steps l) (sym (ap stepsFound q))
 
 module _ {b : Before} {e : Entry} {part : List ℕ} (f : Fitting b e part) (w : Stands (blockOf b e part)) where
   good : Good b e part
-  good = block-good b e part (stepsOf (blockOf b e part)) w
+  good = block-good b e part (stepsFound (blockOf b e part)) w
 
-  same : good .list ≡ stepsOf (blockOf b e part)
-  same = sym (ap stepsOf (good .is))
+  same : good .list ≡ stepsFound (blockOf b e part)
+  same = sym (ap stepsFound (good .is))
 
   module _ (h : e .kind ≡ 0) where
     whole-codes : stepsFrom (b .next) part 0 ≡ all (good .list)
     whole-codes = codes-found (stepsFrom (b .next) part 0) (sym (part-codes b e part h) ∙ good .found)
 
-    pub list-codes : listOf (stepsFrom (b .next) part 0) ≡ stepsOf (blockOf b e part)
+    pub list-codes : listOf (stepsFrom (b .next) part 0) ≡ stepsFound (blockOf b e part)
     list-codes = ap listOf whole-codes ∙ same
 
     pub sound-codes : Sound (b .next) (stepsFrom (b .next) part 0)
@@ -44,7 +45,7 @@ module _ {b : Before} {e : Entry} {part : List ℕ} (f : Fitting b e part) (w : 
     whole-row : (length part ≡ rowSize (e .last + 1 - b .next)) × (rowSteps (b .next) part ≡ good .list)
     whole-row = row-found (b .next) (e .last + 1) part (sym (part-row b e part h) ∙ good .found)
 
-    pub list-row : rowSteps (b .next) part ≡ stepsOf (blockOf b e part)
+    pub list-row : rowSteps (b .next) part ≡ stepsFound (blockOf b e part)
     list-row = whole-row .1 ∙ same
 
     -- the row ends within the byte of its last step

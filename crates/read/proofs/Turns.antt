@@ -17,8 +17,9 @@ use Rattle.image.specs.Entry.{entryPlace, entryAt, entriesAt, start, afterEntry
 use Rattle.image.specs.Block.{Found, steps, wrong, blockOf}
 use Rattle.image.specs.Verdict.{Verdict, taken, refused, prepend, blocksOf}
 use Rattle.image.proofs.Blocks.{Good, block-good, block-wrong, blocks-turn, blocks-halt, blocks-end}
+use Rattle.image.specs.Taken.{stepsFound, listIn, Takes}
 use Rattle.read.specs.declared.Checked.the-variants.{Accepted, Refused}
-use Rattle.read.specs.Inside.{numberOf, stepsOf, listIn, answerOf, Stands, Takes, Filling, Sound, Ready}
+use Rattle.read.specs.Inside.{numberOf, answerOf, Stands, Filling, Sound, Ready}
 use Rattle.read.proofs.ByKind.{stands-steps}
 use Rattle.read.proofs.Ahead.{left, left-start, Ahead, ahead-start, ahead-clean, ahead-next, takes-list, split-here}
 
@@ -106,7 +107,7 @@ putting-start s pay m out r =
 record Halves (f : Found) (whole rest : Verdict) : Type 0 where
   good : Stands f
   takes : Takes rest
-  both : listIn whole ≡ stepsOf f ++ listIn rest
+  both : listIn whole ≡ stepsFound f ++ listIn rest
 
 module _ {s pay : List ℕ} {m : ℕ} {out₀ out : List ℕ} {b : Before} {i p : ℕ} (c : Putting s pay m out₀ out b i p) where
   module _ (e : Entry) (here : e ≡ entryAt s (entryPlace i)) (h : i < m) where
@@ -115,7 +116,7 @@ module _ {s pay : List ℕ} {m : ℕ} {out₀ out : List ℕ} {b : Before} {i p 
     halves =
         let f = blockOf b e (part pay (b .end) (e .end)) in
         let x = split-here s pay m b i e here h (c .takes) in
-        let on : stepsOf f ≡ x .first .list = ap stepsOf (x .first .is) in
+        let on : stepsFound f ≡ x .first .list = ap stepsFound (x .first .is) in
         let after : listIn (blocksOf pay (afterEntry e) (i + 1) (left s m (i + 1))) ≡ x .others = ap listIn (x .more) in
         record {
           good = stands-steps (x .first .is);
@@ -128,10 +129,10 @@ module _ {s pay : List ℕ} {m : ℕ} {out₀ out : List ℕ} {b : Before} {i p 
         let t = halves in
         let f = blockOf b e (part pay (b .end) (e .end)) in
         let rest = listIn (blocksOf pay (afterEntry e) (i + 1) (left s m (i + 1))) in
-        record { good = t .good; room = omega (arith, c .stores .room, ap length (t .both), length-append (stepsOf f) rest) }
+        record { good = t .good; room = omega (arith, c .stores .room, ap length (t .both), length-append (stepsFound f) rest) }
 
-    pub putting-next : {out′ : List ℕ} {p′ : ℕ} → p′ ≡ p + length (stepsOf (blockOf b e (part pay (b .end) (e .end))))
-        → out′ ≡ sets out p (stepsOf (blockOf b e (part pay (b .end) (e .end))))
+    pub putting-next : {out′ : List ℕ} {p′ : ℕ} → p′ ≡ p + length (stepsFound (blockOf b e (part pay (b .end) (e .end))))
+        → out′ ≡ sets out p (stepsFound (blockOf b e (part pay (b .end) (e .end))))
         → Putting s pay m out₀ out′ (afterEntry e) (i + 1) p′
     putting-next ep eo =
         let t = halves in
@@ -140,7 +141,7 @@ module _ {s pay : List ℕ} {m : ℕ} {out₀ out : List ℕ} {b : Before} {i p 
         record {
           ahead = ahead-next (c .ahead) e here h;
           takes = t .takes;
-          stores = storing-run (c .stores) (stepsOf f) rest (t .both) ep eo;
+          stores = storing-run (c .stores) (stepsFound f) rest (t .both) ep eo;
         }
 
   pub putting-end : m ≤ i → out ≡ sets out₀ 0 (listIn (blocksOf pay start 0 (entriesAt m s (entryPlace 0))))

@@ -15,7 +15,8 @@ use Rattle.image.specs.declared.Fault.the-variants.{Fine}
 use Rattle.image.specs.Entry.{entryPlace, payloadPlace, entriesAt, start}
 use Rattle.image.specs.Verdict.{taken, directoryOf, blocksOf}
 use Rattle.image.proofs.Verdict.{Peeled, peel, length-payload}
-use Rattle.read.specs.Inside.{listIn, Sound, Ready}
+use Rattle.image.specs.Taken.{listIn}
+use Rattle.read.specs.Inside.{Sound, Ready}
 use Rattle.read.proofs.Answers.{Yes}
 use Rattle.read.proofs.Ahead.{takes-list}
 

@@ -9,7 +9,8 @@ ghost use Rattle.image.specs.Entry.{entriesAt, entryPlace, start};
 ghost use Rattle.image.specs.Block.{blockOf};
 ghost use Rattle.rules.specs.Refusals.{refusal};
 ghost use Rattle.image.specs.Verdict.{faultOf, directoryOf, blocksOf};
-ghost use Rattle.read.specs.Inside.{numberOf, judgedNumber, answerOf, stepsOf, listIn, Fitting, Filling, Sound, Ready};
+ghost use Rattle.image.specs.Taken.{stepsFound, listIn};
+ghost use Rattle.read.specs.Inside.{numberOf, judgedNumber, answerOf, Fitting, Filling, Sound, Ready};
 ghost use Rattle.read.specs.Read.{paperOf, checkPromise, readPromise, readSteps};
 use codes::Tally;
 use image::Before;
@@ -201,8 +202,8 @@ pub fn check(image: &[u8]) -> Checked
 // Puts the steps of a block that was checked into a buffer from a place on, and gives the place after them.
 fn fill_block(part: &[u8], b: Before, e: Entry, out: &mut [u32], at: usize) -> usize
     requires { ⌜ Fitting b e (now part) × Filling (blockOf b e (now part)) at (length (now out)) ⌝ }
-    ensures { λ r. ⌜ (r ≡ at + length (stepsOf (blockOf b e (now (part .entry)))))
-        × (now (out .exit) ≡ sets (now (out .entry)) at (stepsOf (blockOf b e (now (part .entry))))) ⌝ }
+    ensures { λ r. ⌜ (r ≡ at + length (stepsFound (blockOf b e (now (part .entry)))))
+        × (now (out .exit) ≡ sets (now (out .entry)) at (stepsFound (blockOf b e (now (part .entry))))) ⌝ }
 {
     let from = b.next;
     if e.kind == CODES {

@@ -21,8 +21,9 @@ use Rattle.image.proofs.Entries.{entries-here, entries-done}
 use Rattle.image.proofs.Directory.{Clean, directory-clean, directory-whole}
 use Rattle.image.proofs.Found.{part-codes, part-row, codes-found, row-found}
 use Rattle.image.proofs.Blocks.{Good, Split, split}
+use Rattle.image.specs.Taken.{listIn}
 use Rattle.walk.specs.declared.Rest.{Rest}
-use Rattle.walk.specs.Blocks.{listIn, beforeAt, entriesFrom, blocksFrom, later, Blocks}
+use Rattle.walk.specs.Blocks.{beforeAt, entriesFrom, blocksFrom, later, Blocks}
 use Rattle.walk.specs.Walk.{rowIn}
 use Rattle.walk.specs.Turns.{left, Readable, Left, onward, Current}
 use Rattle.walk.proofs.Shapes.{left-codes, left-row, left-none, by-kind}

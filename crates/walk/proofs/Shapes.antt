@@ -18,17 +18,11 @@ use Rattle.codes.proofs.Codes.{steps-end, rising-steps}
 use Rattle.row.specs.Row.{bitsFrom, rowSteps}
 use Rattle.row.specs.Words.{wordBits}
 use Rattle.row.proofs.Row.{row-none, rising-row}
-use Rattle.image.specs.Verdict.{taken, verdict}
 use Rattle.walk.specs.declared.Walk.{Walk}
 use Rattle.walk.specs.declared.Rest.{Rest}
-use Rattle.walk.specs.Blocks.{noStep, listIn, stepsOf, Taken, later}
+use Rattle.walk.specs.Blocks.{noStep, later}
 use Rattle.walk.specs.Walk.{codesIn, rowIn, others, here, ahead}
 use Rattle.walk.specs.Turns.{left, Readable, Met}
-
--- ---- an accepted image
-
-pub taken-is : (s xs : List ℕ) → verdict s ≡ taken xs → Taken s × (stepsOf s ≡ xs)
-taken-is s xs e = (e ∙ ap taken (sym (ap listIn e)), ap listIn e)
 
 -- ---- a part that is read to its end
 

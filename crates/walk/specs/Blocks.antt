@@ -1,36 +1,20 @@
 -- What a walk goes along: an accepted image, its payload, and its blocks by their numbers.
 use mathlib.Core.Path.{_≡_}
-use mathlib.Core.List.{List, []}
+use mathlib.Core.List.{List}
 use Prim.Native.Nat.{ℕ, zero, suc, _+_, _-_, _^_, _≤_, _<_}
-use lib.ListN.{length, drop}
+use lib.ListN.{length}
 use Rattle.rules.specs.Limits.{largestStep}
 use Rattle.rules.specs.Numbers.{numberAt}
 use Rattle.image.specs.declared.Entry.{Entry}
 use Rattle.image.specs.declared.Before.{Before}
 use Rattle.image.specs.declared.Fault.the-variants.{Fine}
-use Rattle.image.specs.Entry.{entryPlace, payloadPlace, entryAt, entriesAt, start, afterEntry}
-use Rattle.image.specs.Verdict.{Verdict, taken, refused, directoryOf, blocksOf, verdict}
+use Rattle.image.specs.Entry.{entryPlace, entryAt, entriesAt, start, afterEntry}
+use Rattle.image.specs.Verdict.{Verdict, taken, directoryOf, blocksOf}
+use Rattle.image.specs.Taken.{listIn}
 
 -- no step: one past the largest
 abbrev pub noStep : ℕ
 noStep = largestStep + 1
-
--- the steps of a verdict
-abbrev pub listIn : Verdict → List ℕ
-listIn (taken xs) = xs
-listIn (refused r) = []
-
--- the steps of an accepted image
-abbrev pub stepsOf : List ℕ → List ℕ
-stepsOf s = listIn (verdict s)
-
--- an image that is accepted
-abbrev pub Taken : List ℕ → Type 0
-Taken s = verdict s ≡ taken (stepsOf s)
-
--- its payload
-abbrev pub payloadIn : List ℕ → List ℕ
-payloadIn s = drop (payloadPlace (numberAt s 0)) s
 
 -- what stands before the block with number `i`
 abbrev pub beforeAt : List ℕ → ℕ → Before

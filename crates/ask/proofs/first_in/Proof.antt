@@ -5,7 +5,7 @@ use native.Mathlib.Omega.{arith}
 use borrow.Author.Needs.{needs}
 use Rattle.lists.specs.Bytes.{Bytes}
 use Rattle.rules.specs.Limits.Laws.{largest-coded, most-counted}
-use Rattle.ask.specs.Search.{imageSteps}
+use Rattle.image.specs.Taken.{stepsOf}
 use Rattle.ask.proofs.Holding.{BoundIn, directory-within, bound-in, bound-out, held-sound, held-step, bound-rank}
 use Rattle.ask.proofs.Answers.{first-found, first-nothing}
 use Rattle.ask.proofs.first_in.Statement.{statement}
@@ -58,7 +58,7 @@ returns c =
 returns-2 : tie.Need-returns-2
 returns-2 c =
     let k = c .before .before .before in
-    first-nothing (imageSteps (k .before .args .image .now)) (k .before .args .x)
+    first-nothing (stepsOf (k .before .args .image .now)) (k .before .args .x)
     (bound-out (k .before .args .image .now) (bytes k) (k .before .pre) (k .before .args .x) (sym (c .before .before .find-bound .ensures) ∙ c .enum-told .given .1))
 
 pub first-in-spec : {M : Type 1} → statement M

@@ -7,7 +7,7 @@ use lib.ListN.{length}
 use Rattle.lists.specs.Parts.{part}
 use Rattle.image.specs.Entry.{payloadPlace}
 use Rattle.image.specs.Verdict.{verdict}
-use Rattle.read.specs.Inside.{listIn}
+use Rattle.image.specs.Taken.{listIn}
 use Rattle.read.proofs.Answers.{Yes, yes-taken}
 use Rattle.read.proofs.Whole.{number-here, payload-here, ready-here}
 use Rattle.listing.proofs.Blocks.{Whole, block-whole}

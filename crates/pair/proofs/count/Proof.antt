@@ -6,7 +6,8 @@ use borrow.Author.Needs.{needs}
 use lib.ListN.{length}
 use Rattle.lists.specs.Bytes.{Bytes}
 use Rattle.rules.specs.Limits.Laws.{most-counted}
-use Rattle.walk.specs.Blocks.{noStep, stepsOf}
+use Rattle.image.specs.Taken.{stepsOf}
+use Rattle.walk.specs.Blocks.{noStep}
 use Rattle.pair.specs.Result.{resultOf}
 use Rattle.pair.proofs.Walking.{Together, resultAhead, stepsAhead, together-first, ahead-first, together-past, together-less, together-end, counted-turn, kept-most, length-most}
 use Rattle.pair.proofs.count.Statement.{statement}

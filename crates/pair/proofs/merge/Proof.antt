@@ -1,5 +1,5 @@
 -- `pair::merge` meets its contract. The invariant: all of the result but what it has ahead is stored. Assumes nothing.
-use mathlib.Core.Path.{_≡_, sym, ap, _∙_}
+use mathlib.Core.Path.{sym, _∙_}
 use mathlib.Core.Logic.{⊎-elim}
 use mathlib.Core.List.{[], _∷_}
 use Prim.Native.Nat.{_+_, _≤_, _<_}
@@ -10,7 +10,8 @@ use Rattle.lists.specs.Bytes.{Bytes}
 use Rattle.lists.proofs.Stores.{Storing, storing-start, storing-run, storing-same, storing-end, sets-front}
 use Rattle.rules.specs.Limits.{mostSteps}
 use Rattle.rules.specs.Limits.Laws.{largest-coded, most-counted}
-use Rattle.walk.specs.Blocks.{noStep, stepsOf}
+use Rattle.image.specs.Taken.{stepsOf}
+use Rattle.walk.specs.Blocks.{noStep}
 use Rattle.pair.specs.Result.{resultOf}
 use Rattle.pair.proofs.Walking.{Together, resultAhead, stepsAhead, together-first, ahead-first, kept-some, together-past, turn-kept, turn-passed, together-less, together-end, length-most}
 use Rattle.pair.proofs.merge.Statement.{statement}

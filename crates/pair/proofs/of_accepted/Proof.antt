@@ -1,18 +1,15 @@
 -- `pair::of_accepted` meets its contract: each test leads to the promise's own case, and the stored steps are the list that is written.
 -- Assumes nothing.
 use mathlib.Core.Path.{_≡_, sym, ap, subst}
-use Prim.Native.Nat.{_≤_}
 use native.Mathlib.Omega.{arith}
 use borrow.Author.Needs.{needs}
 use lib.ListN.{length, take}
-use Rattle.lists.specs.Bytes.{Bytes}
-use Rattle.rules.specs.Limits.{mostSteps}
 use Rattle.rules.specs.Limits.Laws.{most-counted}
 use Rattle.rules.specs.Listed.{Listed}
-use Rattle.walk.specs.Blocks.{stepsOf}
+use Rattle.image.specs.Taken.{stepsOf}
 use Rattle.pair.specs.Result.{resultOf}
 use Rattle.pair.proofs.Result.{result-listed}
-use Rattle.pair.proofs.Walking.{steps-listed}
+use Rattle.image.proofs.Taken.{steps-listed}
 use Rattle.pair.proofs.Outcomes.{promise-many, promise-steps, promise-work, stored-front, promise-written}
 use Rattle.pair.proofs.of_accepted.Statement.{statement}
 use Rattle.pair.proofs.of_accepted.Tie as tie

@@ -1,8 +1,8 @@
 -- `pair::paired` meets its contract: each image is checked in turn, and a refusal is that image's. Assumes nothing.
 use borrow.Author.Needs.{needs}
 use Rattle.read.proofs.Answers.{answer-yes, answer-no}
-use Rattle.walk.specs.Blocks.{Taken}
-use Rattle.walk.proofs.Shapes.{taken-is}
+use Rattle.image.specs.Taken.{Taken}
+use Rattle.image.proofs.Taken.{taken-is}
 use Rattle.pair.proofs.Outcomes.{promise-first, promise-second}
 use Rattle.pair.proofs.paired.Statement.{statement}
 use Rattle.pair.proofs.paired.Tie as tie

@@ -1,7 +1,7 @@
 -- `walk::first` meets its contract: it is the first turn of all, before the first block. Assumes nothing.
 use mathlib.Core.Path.{_≡_, _∙_}
 use native.Mathlib.Omega.{arith}
-use Rattle.walk.specs.Blocks.{stepsOf}
+use Rattle.image.specs.Taken.{stepsOf}
 use Rattle.walk.specs.Turns.{Left, onward}
 use Rattle.walk.proofs.Turning.{startRest, start-left}
 use Rattle.walk.proofs.first.Statement.{statement}

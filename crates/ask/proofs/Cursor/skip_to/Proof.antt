@@ -7,8 +7,8 @@ use Rattle.lists.proofs.Below.{below-le}
 use Rattle.rules.specs.Limits.Laws.{most-counted}
 use Rattle.rules.specs.declared.Refusal.{Refusal}
 use Rattle.rules.specs.Paper.{refusing}
+use Rattle.image.specs.Taken.{stepsOf}
 use Rattle.read.proofs.Answers.{answer-yes, answer-no}
-use Rattle.ask.specs.Search.{imageSteps}
 use Rattle.ask.specs.Cursor.{values, skipIn}
 use Rattle.ask.proofs.Answers.{Kept, kept, skip-over, skip-on, skip-stay}
 use Rattle.ask.proofs.Cursor.skip_to.Statement.{statement}
@@ -45,7 +45,7 @@ cast-at : tie.Need-cast-at
 cast-at c =
     let k = keep (c .before .before .before) in
     let a = c .before .before .before .before .before .before .before .args in
-    omega (arith, c .below-at .ensures, below-le (imageSteps (a .image .now)) (a .x), k .count, k .few, most-counted)
+    omega (arith, c .below-at .ensures, below-le (stepsOf (a .image .now)) (a .x), k .count, k .few, most-counted)
 
 returns-2 : tie.Need-returns-2
 returns-2 c =
