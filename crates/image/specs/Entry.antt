@@ -47,6 +47,11 @@ start = record { next = 0; upto = 0; end = 0 }
 abbrev pub afterEntry : Entry → Before
 afterEntry e = record { next = e .last + 1; upto = e .upto; end = e .end }
 
+-- what stands before the block with number `i`
+abbrev pub beforeAt : List ℕ → ℕ → Before
+beforeAt s zero = start
+beforeAt s (suc i) = afterEntry (entryAt s (entryPlace i))
+
 -- an entry's numbers fit four bytes, and its kind one
 pub record Narrow (e : Entry) : Type 0 where
   pub kind : e .kind < 256

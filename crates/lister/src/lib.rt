@@ -16,7 +16,7 @@ const LONGEST: usize = 65536;
 const CODES: usize = 0;
 
 // Prints a number with a space before it.
-fn another(x: usize) {
+pub fn another(x: usize) {
     io::write_all(STDOUT_FILENO, b" ");
     io::print_decimal(STDOUT_FILENO, x as u64);
 }
@@ -59,7 +59,7 @@ fn print_contents(blocks: usize, steps: usize, bytes: usize) {
 }
 
 // Prints the only line of an image that is refused.
-fn print_refusal(r: Refusal) {
+pub fn print_refusal(r: Refusal) {
     io::write_all(STDOUT_FILENO, b"refused");
     another(r.number as usize);
     io::write_all(STDOUT_FILENO, b" at");
@@ -68,7 +68,7 @@ fn print_refusal(r: Refusal) {
 }
 
 // Prints the list of an image.
-fn list(image: &[u8]) {
+pub fn list(image: &[u8]) {
     let c = listing::contents_of(image);
     match c {
         Contents::Holds {

@@ -9,14 +9,14 @@ use lib.ListN.{length}
 use Rattle.lists.specs.Parts.{part}
 use Rattle.image.specs.declared.Before.{Before}
 use Rattle.image.specs.declared.Entry.{Entry}
-use Rattle.image.specs.Entry.{afterEntry}
+use Rattle.image.specs.Entry.{afterEntry, beforeAt}
 use Rattle.image.specs.Verdict.{blocksOf}
 use Rattle.image.proofs.Directory.{Clean}
 use Rattle.image.proofs.Blocks.{Good}
 use Rattle.image.specs.Taken.{Takes}
 use Rattle.read.specs.Inside.{Fitting, Ready}
 use Rattle.read.proofs.Ahead.{left, left-start, Ahead, ahead-start, ahead-clean, ahead-next, ahead-fitting, takes-list, split-here}
-use Rattle.listing.specs.Listing.{entryOf, beforeAt}
+use Rattle.listing.specs.Listing.{entryOf}
 
 -- what is known before block `i`
 record Reached (s pay : List ℕ) (m i : ℕ) (b : Before) : Type 0 where

@@ -12,11 +12,11 @@ use Rattle.lists.proofs.Rising.{beyond-last}
 use Rattle.rules.specs.Numbers.{numberAt}
 use Rattle.image.specs.declared.Before.{Before}
 use Rattle.image.specs.declared.Entry.{Entry}
-use Rattle.image.specs.Entry.{payloadPlace}
+use Rattle.image.specs.Entry.{payloadPlace, beforeAt}
 use Rattle.image.specs.Block.{Found, blockOf}
-use Rattle.image.specs.Taken.{stepsFound}
+use Rattle.image.specs.Taken.{stepsFound, payloadIn}
 use Rattle.read.proofs.ByKind.{stands-steps}
-use Rattle.listing.specs.Listing.{entryOf, beforeAt, payloadOf, lineIn, lineAt, Some}
+use Rattle.listing.specs.Listing.{entryOf, lineIn, lineAt, Some}
 use Rattle.listing.proofs.Blocks.{Whole}
 
 module _ {pay : List ℕ} {b : Before} {e : Entry} (w : Whole pay b e) where
@@ -48,5 +48,5 @@ pub line-at : (s : List ℕ) (i m : ℕ) → m ≡ numberAt s 0 → (b : Before)
 unfolding lineAt
 line-at s i m im b ib e ie =
     ap (lineIn i b e) (part-end s (payloadPlace m) ∙ ap (λ (k : ℕ). drop (payloadPlace k) s) im)
-    ∙ ap (λ (y : Entry). lineIn i b y (payloadOf s)) ie
-    ∙ ap (λ (y : Before). lineIn i y (entryOf s i) (payloadOf s)) ib
+    ∙ ap (λ (y : Entry). lineIn i b y (payloadIn s)) ie
+    ∙ ap (λ (y : Before). lineIn i y (entryOf s i) (payloadIn s)) ib

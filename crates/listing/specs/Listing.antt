@@ -1,16 +1,16 @@
 -- What the block lister says of an image: a first line, and a line for each block.
 use mathlib.Core.List.{List, [], _∷_}
-use Prim.Native.Nat.{ℕ, zero, suc, _-_, _<_}
-use lib.ListN.{length, getD, drop}
+use Prim.Native.Nat.{ℕ, _-_, _<_}
+use lib.ListN.{length, getD}
 use Rattle.lists.specs.Parts.{part}
 use Rattle.rules.specs.Numbers.{numberAt}
 use Rattle.rules.specs.Paper.{Paper, accepting, refusing}
 use Rattle.image.specs.declared.Before.{Before}
 use Rattle.image.specs.declared.Entry.{Entry}
-use Rattle.image.specs.Entry.{entryPlace, payloadPlace, entryAt, start, afterEntry}
+use Rattle.image.specs.Entry.{entryPlace, entryAt, beforeAt}
 use Rattle.image.specs.Block.{Found, blockOf}
 use Rattle.image.specs.Verdict.{Verdict, taken, refused, verdict}
-use Rattle.image.specs.Taken.{stepsFound}
+use Rattle.image.specs.Taken.{stepsFound, payloadIn}
 use Rattle.read.specs.Inside.{Stands}
 use Rattle.listing.specs.declared.Contents.{Contents}
 use Rattle.listing.specs.declared.Contents.the-variants.{Holds, Refused}
@@ -33,17 +33,9 @@ contentsPaper s (refused r) = refusing values r
 abbrev pub contentsPromise : List ℕ → Paper
 contentsPromise s = contentsPaper s (verdict s)
 
--- the entry of block i, and what stands before it
+-- the entry of block i
 abbrev pub entryOf : List ℕ → ℕ → Entry
 entryOf s i = entryAt s (entryPlace i)
-
-abbrev pub beforeAt : List ℕ → ℕ → Before
-beforeAt s zero = start
-beforeAt s (suc i) = afterEntry (entryOf s i)
-
--- the payload of an image
-abbrev pub payloadOf : List ℕ → List ℕ
-payloadOf s = drop (payloadPlace (numberAt s 0)) s
 
 -- the line of a block, by its number, kind, steps and payload bytes: number, kind, first step, last step, how many steps, how many bytes
 abbrev pub lineOf : ℕ → ℕ → List ℕ → List ℕ → Line
@@ -57,7 +49,7 @@ lineIn i b e pay =
 
 -- the line of block i of an image
 unfoldable pub lineAt : List ℕ → ℕ → Line
-lineAt s i = lineIn i (beforeAt s i) (entryOf s i) (payloadOf s)
+lineAt s i = lineIn i (beforeAt s i) (entryOf s i) (payloadIn s)
 
 -- a block that was checked and has a step
 pub record Some (f : Found) : Type 0 where

@@ -1,5 +1,4 @@
--- The promise of an operation on two images decides its answer and what every lent buffer then holds; and where it accepts, it is a link of
--- a chain.
+-- The promise of an operation on two images decides its answer and what every lent buffer then holds.
 -- Assumes nothing.
 use mathlib.Core.Path.{_≡_, sym, _∙_}
 use mathlib.Core.List.{List}

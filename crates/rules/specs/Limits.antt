@@ -1,13 +1,6 @@
--- The two limits of document 01. They are shut: the crates above go by `Limits.Laws` alone, so that new limits are two new numbers
--- here and in the source. `Limits.Values` is for this crate's own functions and for worked examples.
-pub mod Laws
+-- The two limits of document 01. They are shut: the crates above can name them and not open them, and go by `Limits.Laws` alone, so that new
+-- limits are two new numbers in `Limits.Values` and in the source.
 pub mod Values
-use Prim.Native.Nat.{ℕ}
-
--- the largest step
-pub largestStep : ℕ
-largestStep = 16777215
-
--- the largest number of steps of a list
-pub mostSteps : ℕ
-mostSteps = 1048576
+pub mod Laws
+-- the largest step, and the largest number of steps of a list
+pub use Rattle.rules.specs.Limits.Values.{largestStep, mostSteps}

@@ -15,7 +15,7 @@ use Rattle.codes.specs.Codes.{all, listOf, stepsFrom}
 use Rattle.row.specs.Row.{rowSize}
 use Rattle.image.specs.declared.Entry.{Entry}
 use Rattle.image.specs.declared.Before.{Before}
-use Rattle.image.specs.Entry.{entryPlace, entryAt, afterEntry}
+use Rattle.image.specs.Entry.{entryPlace, entryAt, afterEntry, beforeAt}
 use Rattle.image.specs.Verdict.{taken, directoryOf, blocksOf}
 use Rattle.image.proofs.Entries.{entries-here, entries-done}
 use Rattle.image.proofs.Directory.{Clean, directory-clean, directory-whole}
@@ -23,7 +23,7 @@ use Rattle.image.proofs.Found.{part-codes, part-row, codes-found, row-found}
 use Rattle.image.proofs.Blocks.{Good, Split, split}
 use Rattle.image.specs.Taken.{listIn}
 use Rattle.walk.specs.declared.Rest.{Rest}
-use Rattle.walk.specs.Blocks.{beforeAt, entriesFrom, blocksFrom, later, Blocks}
+use Rattle.walk.specs.Blocks.{entriesFrom, blocksFrom, later, Blocks}
 use Rattle.walk.specs.Walk.{rowIn}
 use Rattle.walk.specs.Turns.{left, Readable, Left, onward, Current}
 use Rattle.walk.proofs.Shapes.{left-codes, left-row, left-none, by-kind}

@@ -21,9 +21,10 @@ use Rattle.row.specs.Row.{bitsFrom}
 use Rattle.row.specs.Words.{wordBits}
 use Rattle.row.proofs.Row.{rising-row}
 use Rattle.row.proofs.Bits.{bits-zero, beyond-bits, rising-bits-on, bits-lowest, lowest-below}
+use Rattle.image.specs.Entry.{beforeAt}
 use Rattle.walk.specs.declared.Walk.{Walk}
 use Rattle.walk.specs.declared.Move.the-variants.{To, Out}
-use Rattle.walk.specs.Blocks.{noStep, beforeAt, later}
+use Rattle.walk.specs.Blocks.{noStep, later}
 use Rattle.walk.specs.Walk.{codesIn, rowIn, others, here, ahead, Open, Placed, Stands, Passes}
 use Rattle.walk.specs.Turns.{metWalk, codedWalk, left, restOf, Left, Turned, Slid, wordMove, bitMove, Moves}
 use Rattle.walk.proofs.Shapes.{here-codes, here-row, left-codes, left-row, first-below, beyond-first, ahead-step, ahead-none}

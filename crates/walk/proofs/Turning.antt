@@ -11,13 +11,13 @@ use Rattle.rules.specs.Numbers.{numberAt}
 use Rattle.rules.proofs.Numbers.{number-lt}
 use Rattle.codes.specs.Codes.{all, listOf}
 use Rattle.image.specs.declared.Fault.the-variants.{Fine}
-use Rattle.image.specs.Entry.{entryPlace, payloadPlace, entriesAt, start}
+use Rattle.image.specs.Entry.{entryPlace, payloadPlace, entriesAt, start, beforeAt}
 use Rattle.image.specs.Verdict.{taken, directoryOf, blocksOf}
 use Rattle.image.proofs.Verdict.{length-payload, peel}
 use Rattle.image.specs.Taken.{listIn, stepsOf, Taken, payloadIn}
 use Rattle.walk.specs.declared.Walk.{Walk}
 use Rattle.walk.specs.declared.Rest.{Rest}
-use Rattle.walk.specs.Blocks.{noStep, beforeAt, blocksFrom, later, Blocks}
+use Rattle.walk.specs.Blocks.{noStep, blocksFrom, later, Blocks}
 use Rattle.walk.specs.Walk.{here}
 use Rattle.walk.specs.Turns.{left, codedWalk, Left, onward, Current, Met, Turned}
 use Rattle.walk.proofs.Shapes.{whole-none, left-none, met-step, beyond-first, ahead-step, ahead-none}

@@ -1,25 +1,19 @@
 -- What a walk goes along: an accepted image, its payload, and its blocks by their numbers.
 use mathlib.Core.Path.{_≡_}
 use mathlib.Core.List.{List}
-use Prim.Native.Nat.{ℕ, zero, suc, _+_, _-_, _^_, _≤_, _<_}
+use Prim.Native.Nat.{ℕ, _+_, _-_, _^_, _≤_, _<_}
 use lib.ListN.{length}
 use Rattle.rules.specs.Limits.{largestStep}
 use Rattle.rules.specs.Numbers.{numberAt}
 use Rattle.image.specs.declared.Entry.{Entry}
-use Rattle.image.specs.declared.Before.{Before}
 use Rattle.image.specs.declared.Fault.the-variants.{Fine}
-use Rattle.image.specs.Entry.{entryPlace, entryAt, entriesAt, start, afterEntry}
+use Rattle.image.specs.Entry.{entryPlace, entriesAt, beforeAt}
 use Rattle.image.specs.Verdict.{Verdict, taken, directoryOf, blocksOf}
 use Rattle.image.specs.Taken.{listIn}
 
 -- no step: one past the largest
 abbrev pub noStep : ℕ
 noStep = largestStep + 1
-
--- what stands before the block with number `i`
-abbrev pub beforeAt : List ℕ → ℕ → Before
-beforeAt s zero = start
-beforeAt s (suc i) = afterEntry (entryAt s (entryPlace i))
 
 -- the entries from number `i` on
 abbrev pub entriesFrom : List ℕ → ℕ → List Entry

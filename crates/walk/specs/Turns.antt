@@ -10,11 +10,12 @@ use Rattle.lists.specs.Choice.{pick}
 use Rattle.lists.specs.Rising.{beyond}
 use Rattle.row.specs.Row.{byteBits}
 use Rattle.row.specs.Words.{wordBits}
+use Rattle.image.specs.Entry.{beforeAt}
 use Rattle.walk.specs.declared.Walk.{Walk}
 use Rattle.walk.specs.declared.Rest.{Rest}
 use Rattle.walk.specs.declared.Move.{Move}
 use Rattle.walk.specs.declared.Move.the-variants.{To, Out}
-use Rattle.walk.specs.Blocks.{noStep, beforeAt, later, Blocks}
+use Rattle.walk.specs.Blocks.{noStep, later, Blocks}
 use Rattle.walk.specs.Walk.{codesIn, Whole, rowIn, others, here, ahead, Open, Placed, Stands}
 
 -- the walk at the lowest one of a word, and the walk at a step among codes

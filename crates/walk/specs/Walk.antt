@@ -12,8 +12,9 @@ use Rattle.lists.specs.Parts.{part}
 use Rattle.codes.specs.Codes.{all, stepsFrom, listOf}
 use Rattle.row.specs.Row.{byteBits, bitsFrom, rowSteps}
 use Rattle.row.specs.Words.{wordBits}
+use Rattle.image.specs.Entry.{beforeAt}
 use Rattle.walk.specs.declared.Walk.{Walk}
-use Rattle.walk.specs.Blocks.{noStep, beforeAt, later, Blocks}
+use Rattle.walk.specs.Blocks.{noStep, later, Blocks}
 
 -- the steps of codes that stand in the payload from `at` to `end`, the first at least `o`; and that no code of them fails
 abbrev pub codesIn : ℕ → List ℕ → ℕ → ℕ → List ℕ

@@ -12,7 +12,7 @@ use Rattle.lists.specs.Bytes.{Bytes}
 use Rattle.lists.proofs.Choice.{pick-yes, pick-no, by-lt}
 use Rattle.lists.proofs.Parts.{drop-run}
 use Rattle.lists.proofs.Bytes.{bytes-nil, bytes-cons, bytes-append}
-use Rattle.code.specs.Code.{oneGroup, twoGroups, threeGroups, codeValues, flag, codeOf}
+use Rattle.code.specs.Code.Open.{oneGroup, twoGroups, threeGroups, codeValues, flag, codeOf}
 use Rattle.code.specs.Code.Inside.{
   code-one-byte,
   code-two-bytes,

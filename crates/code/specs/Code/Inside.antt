@@ -1,6 +1,5 @@
--- The code by the size of the number, its reading byte by byte, and document 01's examples of codes. For this crate's own functions
--- and for worked examples, and for nothing else.
-use mathlib.Core.Path.{_≡_, refl, sym, ap, _∙_}
+-- The code by the size of the number, and its reading byte by byte. For this crate's own functions, and for nothing else.
+use mathlib.Core.Path.{_≡_, sym, ap, _∙_}
 use mathlib.Core.List.{List, [], _∷_}
 use Prim.Native.Nat.{ℕ, zero, suc, _+_, _-_, _*_, _/_, _%_, _≤_, _<_}
 use native.Mathlib.Omega.{arith}
@@ -10,7 +9,7 @@ use Rattle.lists.proofs.Choice.{pick-yes, pick-no}
 use Rattle.lists.proofs.Parts.{drop-run}
 use Rattle.code.specs.declared.Flaw.the-variants.{Padded, Long, Cut}
 use Rattle.code.specs.declared.Reading.the-variants.{Code, Bad}
-use Rattle.code.specs.Code.{oneGroup, twoGroups, threeGroups, flag, codeOf, codeSize, more, first, readAt}
+use Rattle.code.specs.Code.Open.{oneGroup, twoGroups, threeGroups, flag, codeOf, codeSize, more, first, readAt}
 
 -- ---- the code by the size of the number
 
@@ -109,17 +108,3 @@ module _ {s : List ℕ} {at p h b : ℕ} {t : List ℕ} (e : drop p s ≡ b ∷ 
             ∙ pick-no _ _ _ (le-ltb b flag g)
             ∙ ap (more k (p + 1) (h * oneGroup + (b - flag))) (sym (drop-run s p (b ∷ []) t e));
       }
-
--- ---- document 01's examples: 127 is 7F; 128 is 81 00; 16,384 is 81 80 00; 65,790 is 84 81 7E
-
--- each number of a table with its code
-abbrev pub Coded : List (ℕ × List ℕ) → Type 0
-Coded [] = Unit {0}
-Coded (r ∷ rs) = (codeOf (r .0) ≡ r .1) × Coded rs
-
-abbrev pub codeTable : List (ℕ × List ℕ)
-codeTable = (127, 0x7f ∷ []) ∷ (128, 0x81 ∷ 0 ∷ []) ∷ (16384, 0x81 ∷ 0x80 ∷ 0 ∷ []) ∷ (65790, 0x84 ∷ 0x81 ∷ 0x7e ∷ []) ∷ []
-
-pub code-examples : Coded codeTable
-unfolding codeOf
-code-examples = (refl, (refl, (refl, (refl, tt))))

@@ -13,7 +13,7 @@ use Rattle.lists.proofs.Parts.{drop-one, drop-run}
 use Rattle.lists.proofs.Bytes.{bytes-nil, bytes-cons, bytes-append}
 use Rattle.code.specs.declared.Flaw.{Flaw}
 use Rattle.code.specs.declared.Reading.the-variants.{Code, Bad}
-use Rattle.code.specs.Code.{oneGroup, twoGroups, threeGroups, codeValues, flag, codeOf, codeSize, readAt}
+use Rattle.code.specs.Code.Open.{oneGroup, twoGroups, threeGroups, codeValues, flag, codeOf, codeSize, readAt}
 use Rattle.code.specs.Code.Inside.{
   size-one,
   size-two,

@@ -1,7 +1,7 @@
 -- `listing::before` meets its contract, by whether the block is the first. Assumes nothing.
 use mathlib.Core.Path.{sym, ap, _∙_}
 use borrow.Author.Needs.{needs}
-use Rattle.listing.specs.Listing.{beforeAt}
+use Rattle.image.specs.Entry.{beforeAt}
 use Rattle.listing.proofs.Blocks.{before-past}
 use Rattle.listing.proofs.before.Statement.{statement}
 use Rattle.listing.proofs.before.Tie as tie

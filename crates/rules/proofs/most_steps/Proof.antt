@@ -1,11 +1,12 @@
 -- `rules::most_steps` meets its contract: the constant is the largest number of steps. Assumes nothing.
-use mathlib.Core.Path.{sym}
-use Rattle.rules.specs.Limits.Values.{most-is}
+use mathlib.Core.Path.{refl}
+use Rattle.rules.specs.Limits.Values.{mostSteps}
 use Rattle.rules.proofs.most_steps.Statement.{statement}
 use Rattle.rules.proofs.most_steps.Tie as tie
 
 returns : tie.Need-returns
-returns c = sym most-is
+unfolding mostSteps
+returns c = refl
 
 pub most-steps-spec : {M : Type 1} → statement M
 most-steps-spec = tie.close (tie.spec returns)

@@ -1,7 +1,7 @@
 -- What the crates above may know of the limits.
 use Prim.Native.Nat.{_+_, _^_, _≤_, _<_}
 use native.Mathlib.Omega.{arith}
-use Rattle.rules.specs.Limits.{largestStep, mostSteps}
+use Rattle.rules.specs.Limits.Values.{largestStep, mostSteps}
 
 -- a step has a code
 pub largest-coded : largestStep < 2 ^ 28

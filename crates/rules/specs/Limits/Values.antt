@@ -1,11 +1,10 @@
--- The limits as the numbers that they are: for this crate's functions and for worked examples, and for nothing else.
-use mathlib.Core.Path.{_≡_, refl}
-use Rattle.rules.specs.Limits.{largestStep, mostSteps}
+-- The limits as the numbers that they are: for this crate and for worked examples, and for nothing else.
+use Prim.Native.Nat.{ℕ}
 
-pub largest-is : largestStep ≡ 16777215
-unfolding largestStep
-largest-is = refl
+-- the largest step
+unfoldable pub largestStep : ℕ
+largestStep = 16777215
 
-pub most-is : mostSteps ≡ 1048576
-unfolding mostSteps
-most-is = refl
+-- the largest number of steps of a list
+unfoldable pub mostSteps : ℕ
+mostSteps = 1048576
