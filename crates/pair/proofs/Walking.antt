@@ -22,7 +22,7 @@ use Rattle.walk.proofs.Shapes.{ahead-step, ahead-none}
 use Rattle.pair.specs.declared.Operation.{Operation}
 use Rattle.pair.specs.Result.{keeps, resultOf}
 use Rattle.pair.specs.Merge.{headOf, pastOf, kept}
-use Rattle.pair.proofs.Turns.{length-result}
+use Rattle.pair.proofs.Turns.{length-kept, most-sum, length-result}
 use Rattle.pair.proofs.Merging.{Below, past-below, past-length, past-less, merge-turn, merge-end}
 
 -- ---- one walk
@@ -81,11 +81,6 @@ resultAhead op s pay t tail a b = resultOf op (ahead s pay a) (ahead t tail b)
 -- how many steps the two have ahead
 abbrev pub stepsAhead : (s pay t tail : List ℕ) → Walk → Walk → ℕ
 stepsAhead s pay t tail a b = length (ahead s pay a) + length (ahead t tail b)
-
--- a step that is kept counts one
-length-kept : (k : Bool) (x : ℕ) (zs : List ℕ) → length (kept k x zs) ≡ boolByte k + length zs
-length-kept true x zs = omega arith
-length-kept false x zs = omega arith
 
 module _ {s pay t tail : List ℕ} {a b : Walk} {x : ℕ} (w : Together s pay t tail a b x) where
   -- no step is left
@@ -180,10 +175,10 @@ pub kept-most : (k : Bool) → boolByte k ≤ 1
 kept-most true = omega arith
 kept-most false = omega arith
 
--- a result has no more steps than two lists
+-- a result of lists of `n` and `m` steps, and so any of two lists, is not too long to be counted
 pub length-most : (op : Operation) (s t : List ℕ) → Bytes s → Bytes t → Taken s → Taken t
     → length (resultOf op (stepsOf s) (stepsOf t)) ≤ mostSteps + mostSteps
 length-most op s t u v a b =
     let l = steps-listed s u a in
     let m = steps-listed t v b in
-    omega (arith, length-result op 0 (stepsOf s) (stepsOf t) (l .rising) (m .rising), l .few, m .few)
+    omega (arith, length-result op 0 (stepsOf s) (stepsOf t) (l .rising) (m .rising), most-sum op (length (stepsOf s)) (length (stepsOf t)), l .few, m .few)

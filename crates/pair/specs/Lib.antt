@@ -1,4 +1,5 @@
 pub mod Result
 pub mod Merge
 pub mod Promise
+pub mod Room
 pub mod Chain

@@ -143,8 +143,10 @@ returns c =
     let l = c .before .before .before .before .before .before .before in
     let a = l .before .before .before .before in
     let e : noStep ≤ c .before .loop .x = omega (arith, l .largest-step .ensures) in
-    storing-end (c .before .loop .inv .1) (together-end (c .before .loop .inv .0) (a .args .op) e) .1
-    ∙ sets-front (a .args .steps .now) (resultOf (a .args .op) (stepsOf (a .args .first .now)) (stepsOf (a .args .second .now))) (a .pre .1)
+    let s = storing-end (c .before .loop .inv .1) (together-end (c .before .loop .inv .0) (a .args .op) e) in (
+      omega (arith, s .0),
+      s .1 ∙ sets-front (a .args .steps .now) (resultOf (a .args .op) (stepsOf (a .args .first .now)) (stepsOf (a .args .second .now))) (a .pre .1),
+    )
 
 pub merge-spec : {M : Type 1} → statement M
 merge-spec =

@@ -1,18 +1,34 @@
 -- `pair::paired` meets its contract: each image is checked in turn, and a refusal is that image's. Assumes nothing.
+use mathlib.Core.Path.{_≡_, sym, ap, _∙_}
 use borrow.Author.Needs.{needs}
-use Rattle.read.proofs.Answers.{answer-yes, answer-no}
-use Rattle.image.specs.Taken.{Taken}
+use lib.ListN.{length}
+use Rattle.image.specs.Taken.{stepsOf, Taken}
 use Rattle.image.proofs.Taken.{taken-is}
+use Rattle.read.proofs.Answers.{answer-yes, answer-no}
 use Rattle.pair.proofs.Outcomes.{promise-first, promise-second}
 use Rattle.pair.proofs.paired.Statement.{statement}
 use Rattle.pair.proofs.paired.Tie as tie
 
--- the first image is accepted
-first : (c : tie.After-enum-told) → Taken (c .before .before .before .before .before .before .before .before .args .first .now)
+-- an image that was accepted with `n` steps
+first : (c : tie.After-c2)
+    → let s = c .before .before .before .before .before .before .before .before .args .first .now in
+    Taken s × (c .c2 .given .0 .0 ≡ length (stepsOf s))
 first c =
     let k = c .before .before in
     let s = k .before .before .before .before .before .before .args .first .now in
-    taken-is s _ (answer-yes s (k .check .ensures) (c .enum-told .given .1) .is) .0
+    let y = answer-yes s (k .check .ensures) (c .c2 .given .1) in
+    let t = taken-is s (y .list) (y .is) in
+    (t .0, sym (ap length (t .1) ∙ y .count))
+
+second : (c : tie.After-d2)
+    → let s = c .before .before .before .before .before .before .before .before .before .before .before .before .args .second .now in
+    Taken s × (c .d2 .given .0 .0 ≡ length (stepsOf s))
+second c =
+    let k = c .before .before in
+    let s = k .before .before .before .before .before .before .before .before .before .before .args .second .now in
+    let y = answer-yes s (k .check2 .ensures) (c .d2 .given .1) in
+    let t = taken-is s (y .list) (y .is) in
+    (t .0, sym (ap length (t .1) ∙ y .count))
 
 check-requires : tie.Need-check-requires
 check-requires c κs = search needs
@@ -23,8 +39,8 @@ enum-known-c c = search needs
 on-side-requires : tie.Need-on-side-requires
 on-side-requires c κs = search needs
 
-enum-told : tie.Need-enum-told
-enum-told c = search needs
+enum-known-c-2 : tie.Need-enum-known-c-2
+enum-known-c-2 c = search needs
 
 check-requires-2 : tie.Need-check-requires-2
 check-requires-2 c κs = search needs
@@ -35,16 +51,21 @@ enum-known-d c = search needs
 on-side-requires-2 : tie.Need-on-side-requires-2
 on-side-requires-2 c κs = search needs
 
-enum-told-2 : tie.Need-enum-told-2
-enum-told-2 c = search needs
+enum-known-d-2 : tie.Need-enum-known-d-2
+enum-known-d-2 c = search needs
+
+cast-of-accepted : tie.Need-cast-of-accepted
+cast-of-accepted c = search needs
+
+cast-of-accepted-2 : tie.Need-cast-of-accepted-2
+cast-of-accepted-2 c = search needs
 
 of-accepted-requires : tie.Need-of-accepted-requires
 of-accepted-requires c κs =
-    let d = c .before .before .before in
-    let k = d .before .before in
-    let f = k .before in
-    let s = f .before .before .before .before .before .before .before .before .args .second .now in
-    (first f, taken-is s _ (answer-yes s (k .check2 .ensures) (d .enum-told2 .given .1) .is) .0)
+    let d = c .before .before .before .before in
+    let f = first (d .before .before .before .before) in
+    let s = second d in
+    ((f .0, s .0), (f .1, s .1))
 
 returns : tie.Need-returns
 returns c =
@@ -55,9 +76,9 @@ returns c =
 returns-2 : tie.Need-returns-2
 returns-2 c =
     let k = c .before .before .before .before in
-    let f = k .before in
+    let f = k .before .before in
     let a = f .before .before .before .before .before .before .before .before .args in
-    promise-second (first f) (answer-no (a .second .now) (k .check2 .ensures) (c .before .before .d .given .1)) (c .on-side2 .ensures)
+    promise-second (first f .0) (answer-no (a .second .now) (k .check2 .ensures) (c .before .before .d .given .1)) (c .on-side2 .ensures)
 
 same-length : tie.Need-same-length
 same-length c = search needs
@@ -78,11 +99,13 @@ paired-spec =
     check-requires
     enum-known-c
     on-side-requires
-    enum-told
+    enum-known-c-2
     check-requires-2
     enum-known-d
     on-side-requires-2
-    enum-told-2
+    enum-known-d-2
+    cast-of-accepted
+    cast-of-accepted-2
     of-accepted-requires
     returns
     returns-2
