@@ -2,7 +2,7 @@
 -- Assumes nothing.
 use mathlib.Core.Path.{_≡_, refl, sym, ap, subst, _∙_}
 use mathlib.Core.List.{List}
-use Prim.Native.Nat.{ℕ, _+_, _-_, _*_, _≤_, _<_}
+use Prim.Native.Nat.{ℕ, _+_, _-_, _*_, _≤_, _<_, min}
 use native.Mathlib.Omega.{arith}
 use borrow.Author.Count.{below-more}
 use lib.ListN.{length, getD, set, length-set}
@@ -10,14 +10,15 @@ use lib.Seq.{getD-set-same, getD-set-other, drop-set-lt}
 use Rattle.lists.specs.Rising.{past}
 use Rattle.lists.proofs.Choice.{by-lt}
 use Rattle.lists.proofs.Ranks.{past-next, past-le}
-use Rattle.rules.specs.Sizes.{workFor}
+use Rattle.rules.specs.Sizes.{entrySize, workFor}
 use Rattle.rules.specs.Listed.{Listed}
 use Rattle.code.specs.Code.{codeSize}
 use Rattle.code.specs.Code.Laws.{size-most}
-use Rattle.plan.specs.Ahead.{mostAhead, grown, aheadAt, bytesAt}
-use Rattle.plan.specs.declared.Ahead.{Ahead}
+use Rattle.row.specs.Row.{byteBits, rowSize}
+use Rattle.plan.specs.declared.Turn.{Turn}
+use Rattle.plan.specs.Ahead.{mostAhead, turned, bytesAt, codesAt, reachAt, rowAt}
 use Rattle.plan.specs.Work.{Kept, Sized, Ready}
-use Rattle.plan.proofs.Ranks.{ahead-end, ahead-step, fits}
+use Rattle.plan.proofs.Ranks.{codes-end, reach-end, bytes-end, bytes-step, codes-turn, reach-turn, fits}
 
 -- ---- what is kept
 
@@ -91,33 +92,49 @@ sized-fits x e = omega (arith, size-most x)
 
 -- ---- values: the numbers ahead of the ranks from `i` on stand in the work area, and below `i` the sizes
 
-pub record Valuing (xs work₀ work : List ℕ) (i next : ℕ) (ahead : Ahead) : Type 0 where
+-- one step more, number by number
+pub turned-is : (g o p : ℕ) (t : Turn) {rest reach row : ℕ} → reach ≡ min (t .reach) (byteBits * t .codes + (p + byteBits * entrySize))
+    → rest ≡ min (t .codes) (t .row)
+    → row ≡ rowSize (reach - o + byteBits * entrySize)
+    → record { codes = g + rest; row = row; reach = reach } ≡ turned g o p t
+turned-is g o p t {rest} {reach} {row} er es ew =
+    let r : reach ≡ min (t .reach) (byteBits * (entrySize + t .codes) + p) = omega (arith, er) in
+    let w : row ≡ entrySize + rowSize (reach - o) = omega (arith, ew) in
+    rw (w, es, r)
+
+pub record Valuing (xs work₀ work : List ℕ) (i next : ℕ) (turn : Turn) : Type 0 where
   pub within : i ≤ length xs
   pub end : next ≡ past xs i
-  pub is : ahead ≡ aheadAt xs i
+  pub codes : turn .codes ≡ codesAt xs i
+  pub row : turn .row ≡ entrySize + rowAt xs i
+  pub reach : turn .reach ≡ reachAt xs i
   pub sized : Sized xs work i
   pub ready : Ready xs work i
   pub kept : Kept (length xs) work₀ work
 
 pub valuing-start : {xs work : List ℕ} {next : ℕ} → Listed xs → workFor (length xs) ≤ length work → Sized xs work (length xs)
     → next ≡ past xs (length xs)
-    → Valuing xs work work (length xs) next (record { bytes = 0; codes = 0; reach = next })
+    → Valuing xs work work (length xs) next (record { codes = 0; row = entrySize; reach = next })
 valuing-start {xs} l room s e = record {
   within = omega arith;
   end = e;
-  is = ap (λ (p : ℕ). record { bytes = 0; codes = 0; reach = p }) e ∙ sym (ahead-end xs);
+  codes = sym (codes-end xs);
+  row = omega (arith, reach-end xs);
+  reach = e ∙ sym (reach-end xs);
   sized = s;
   ready = record { listed = l; room = room; reach = λ u h g. absurd (omega arith); codes = λ u h g. absurd (omega arith) };
   kept = kept-none;
 }
 
-pub valuing-turn : {xs work₀ work : List ℕ} {j next from : ℕ} {ahead new : Ahead} (i : ℕ) → Valuing xs work₀ work j next ahead → i + 1 ≡ j
-    → from ≡ past xs i → new ≡ grown (getD work (2 * i + 1) 0) from next ahead
+pub valuing-turn : {xs work₀ work : List ℕ} {j next from : ℕ} {turn new : Turn} (i : ℕ) → Valuing xs work₀ work j next turn → i + 1 ≡ j
+    → from ≡ past xs i → new ≡ turned (getD work (2 * i + 1) 0) from next turn
     → Valuing xs work₀ (set (set work (2 * i) (new .reach)) (2 * i + 1) (new .codes)) i from new
-valuing-turn {xs} {work₀} {work} {j} {next} {from} {ahead} {new} i v ei ef en = record {
+valuing-turn {xs} {work₀} {work} {j} {next} {from} {turn} {new} i v ei ef en = record {
   within = omega (arith, v .within);
   end = ef;
-  is = is;
+  codes = codes;
+  row = row;
+  reach = reach;
   sized = λ u h. other (2 * u + 1) (λ q. omega arith) (λ q. omega arith) ∙ v .sized u (omega arith);
   ready = record {
     listed = v .ready .listed;
@@ -126,12 +143,12 @@ valuing-turn {xs} {work₀} {work} {j} {next} {from} {ahead} {new} i v ei ef en 
         by-lt i u (λ k. other (2 * u) (λ q. omega arith) (λ q. omega arith) ∙ v .ready .reach u (omega arith) g)
         (λ k.
         let e : i ≡ u = omega arith in
-        rw (← e) (getD-both-first work i (new .reach) (new .codes) (omega arith) ∙ ap (λ (a : Ahead). a .reach) is));
+        rw (← e) (getD-both-first work i (new .reach) (new .codes) (omega arith) ∙ reach));
     codes = λ u h g.
         by-lt i u (λ k. other (2 * u + 1) (λ q. omega arith) (λ q. omega arith) ∙ v .ready .codes u (omega arith) g)
         (λ k.
         let e : i ≡ u = omega arith in
-        rw (← e) (getD-both-second work i (new .reach) (new .codes) room ∙ ap (λ (a : Ahead). a .codes) is));
+        rw (← e) (getD-both-second work i (new .reach) (new .codes) room ∙ codes));
   };
   kept =
       kept-set (kept-set (v .kept) (2 * i) (new .reach) (omega (arith, v .within))) (2 * i + 1) (new .codes)
@@ -145,31 +162,78 @@ valuing-turn {xs} {work₀} {work} {j} {next} {from} {ahead} {new} i v ei ef en 
         → getD (set (set work (2 * i) (new .reach)) (2 * i + 1) (new .codes)) p 0 ≡ getD work p 0
     other = getD-both-other work i (new .reach) (new .codes)
 
-    is : new ≡ aheadAt xs i
-    is =
-        let g : getD work (2 * i + 1) 0 ≡ codeSize (getD xs i 0 - past xs i) = v .sized i (omega arith) in
-        en ∙ rw (g, ef, v .end, v .is, ← ei) (sym (ahead-step xs i (omega (arith, v .within))))
+    -- the numbers of the rank after this one
+    codes-next : turn .codes ≡ codesAt xs (i + 1)
+    codes-next = v .codes ∙ ap (codesAt xs) (sym ei)
+
+    row-next : turn .row ≡ entrySize + rowAt xs (i + 1)
+    row-next = v .row ∙ ap (λ (k : ℕ). entrySize + rowAt xs k) (sym ei)
+
+    reach-next : turn .reach ≡ reachAt xs (i + 1)
+    reach-next = v .reach ∙ ap (reachAt xs) (sym ei)
+
+    next-is : next ≡ past xs (i + 1)
+    next-is = v .end ∙ ap (past xs) (sym ei)
+
+    codes : new .codes ≡ codesAt xs i
+    codes =
+        omega (
+          arith,
+          ap (λ (t : Turn). t .codes) en,
+          codes-turn (v .ready .listed) i (omega (arith, v .within)),
+          v .sized i (omega arith),
+          codes-next,
+          row-next,
+        )
+
+    reach : new .reach ≡ reachAt xs i
+    reach =
+        omega (
+          arith,
+          ap (λ (t : Turn). t .reach) en,
+          reach-turn (v .ready .listed) i (omega (arith, v .within)),
+          codes-next,
+          reach-next,
+          next-is,
+        )
+
+    row : new .row ≡ entrySize + rowAt xs i
+    row =
+        ap (λ (t : Turn). t .row) en
+        ∙ ap (λ (r : ℕ). entrySize + rowSize (r - from)) (sym (ap (λ (t : Turn). t .reach) en) ∙ reach)
+        ∙ ap (λ (o : ℕ). entrySize + rowSize (reachAt xs i - o)) ef
 
 -- what `grow` asks
-pub valuing-fits : {xs work₀ work : List ℕ} {j next from : ℕ} {ahead : Ahead} (i : ℕ) → Valuing xs work₀ work j next ahead → i + 1 ≡ j
+pub valuing-fits : {xs work₀ work : List ℕ} {j next from : ℕ} {turn : Turn} (i : ℕ) → Valuing xs work₀ work j next turn → i + 1 ≡ j
     → from ≡ past xs i
-    → ((from ≤ next) × (from ≤ ahead .reach))
-    × ((getD work (2 * i + 1) 0 ≤ mostAhead) × (next ≤ mostAhead) × (ahead .reach ≤ mostAhead) × (ahead .bytes ≤ mostAhead))
+    → ((from ≤ next) × (from ≤ turn .reach))
+    × ((getD work (2 * i + 1) 0 ≤ mostAhead) × (next ≤ mostAhead) × (turn .reach ≤ mostAhead) × (turn .codes ≤ mostAhead))
 valuing-fits {xs} {j = j} i v ei ef =
     let f = fits (v .ready .listed) j (v .within) in
-    let l : past xs i ≤ past xs j = past-le xs i j (omega arith) (v .within) (v .ready .listed .rising) in
-    let r = ap (λ (a : Ahead). a .reach) (v .is) in
-    let b = ap (λ (a : Ahead). a .bytes) (v .is) in (
-      (omega (arith, v .end), omega (arith, f .from)),
+    let l : past xs i ≤ past xs j = past-le xs i j (omega arith) (v .within) (v .ready .listed .rising) in (
+      (omega (arith, v .end), omega (arith, f .from, v .reach)),
       (
         omega (arith, sized-fits _ (v .sized i (omega arith))),
         omega (arith, v .end, f .start),
-        omega (arith, f .reach),
-        omega (arith, f .bytes),
+        omega (arith, f .reach, v .reach),
+        omega (arith, f .codes, v .codes),
       ),
     )
 
-pub valuing-end : {xs work₀ work : List ℕ} {i next : ℕ} {ahead : Ahead} → Valuing xs work₀ work i next ahead → i ≡ 0
-    → (ahead .bytes ≡ bytesAt xs 0) × Kept (length xs) work₀ work × Ready xs work 0
-valuing-end {xs} {work = work} v e =
-    (ap (λ (a : Ahead). a .bytes) (v .is) ∙ ap (bytesAt xs) e, v .kept, subst (Ready xs work) e (v .ready))
+-- the fewest bytes, where there is a step and where there is none
+module _ {xs work₀ work : List ℕ} {i next : ℕ} {turn : Turn} (v : Valuing xs work₀ work i next turn) (e : i ≡ 0) where
+  pub valuing-end : {b : ℕ} → b ≡ bytesAt xs 0 → (b ≡ bytesAt xs 0) × Kept (length xs) work₀ work × Ready xs work 0
+  valuing-end q = (q, v .kept, subst (Ready xs work) e (v .ready))
+
+  pub valuing-none : length xs ≡ 0 → 0 ≡ bytesAt xs 0
+  valuing-none z = sym (ap (bytesAt xs) (sym z) ∙ bytes-end xs)
+
+  pub valuing-some : (length xs ≡ 0 → ⊥) → min (entrySize + turn .codes) (turn .row) ≡ bytesAt xs 0
+  valuing-some z =
+      omega (
+        arith,
+        z,
+        v .codes ∙ ap (codesAt xs) e,
+        v .row ∙ ap (λ (k : ℕ). entrySize + rowAt xs k) e,
+        bytes-step xs 0 (omega (arith, z)),
+      )

@@ -8,6 +8,7 @@ use native.Mathlib.Numerals.{add-one}
 use lib.ListN.{length, getD, drop, length-drop}
 use lib.Seq.{drop-length}
 use Rattle.lists.specs.Rising.{Rising, beyond, past}
+use Rattle.lists.proofs.Choice.{by-lt}
 use Rattle.lists.proofs.Parts.{drop-one}
 use Rattle.lists.proofs.Ranks.{past-next, rising-drop, beyond-drop, beyond-past, past-beyond, past-getD}
 use Rattle.rules.specs.Limits.Laws.{largest-coded, most-counted}
@@ -16,17 +17,9 @@ use Rattle.rules.specs.Listed.{Listed}
 use Rattle.code.specs.Code.{codeSize}
 use Rattle.code.specs.Code.Laws.{size-most}
 use Rattle.row.specs.Row.{byteBits, rowSize}
-use Rattle.plan.specs.Ahead.{mostAhead, grown, aheadOf, aheadAt, bytesAt, codesAt, reachAt, rowAt}
-use Rattle.plan.specs.declared.Ahead.{Ahead}
+use Rattle.plan.specs.Ahead.{mostAhead, Ahead, grown, aheadOf, aheadAt, bytesAt, codesAt, reachAt, rowAt}
 use Rattle.plan.proofs.Costs.{codesTo, codes-one}
-
--- one step more, number by number
-pub grown-is : (g o p : ℕ) (a : Ahead) {rest reach row least : ℕ} → rest ≡ min (a .bytes) (a .codes)
-    → reach ≡ min (a .reach) (byteBits * a .bytes + p)
-    → row ≡ rowSize (reach - o)
-    → least ≡ min (g + rest) row
-    → record { bytes = entrySize + least; codes = g + rest; reach = reach } ≡ grown g o p a
-grown-is g o p a rest reach row least = rw (least, row, reach, rest)
+use Rattle.plan.proofs.Scans.{upward}
 
 -- ---- of a list that begins at `o` at the earliest
 
@@ -73,6 +66,17 @@ module _ (xs : List ℕ) where
       → reachAt xs i ≡ min (reachAt xs (i + 1)) (byteBits * bytesAt xs (i + 1) + past xs (i + 1))
   reach-step i h = ap (λ (a : Ahead). a .reach) (ahead-step i h)
 
+  -- what lies ahead reaches no less at a later rank
+  pub reach-rises : (i j : ℕ) → i ≤ j → j ≤ length xs → reachAt xs i ≤ reachAt xs j
+  reach-rises i j h g =
+      by-lt i j
+      (λ k.
+      upward (λ u. u ≤ length xs → reachAt xs i ≤ reachAt xs u) i (λ l. omega (arith, reach-step i (omega arith)))
+      (λ u a p l. omega (arith, reach-step u (omega arith), p (omega arith))) j k g)
+      (λ k.
+      let e : i ≡ j = omega arith in
+      omega (arith, ap (reachAt xs) e))
+
   pub bytes-step : (i : ℕ) → i < length xs → bytesAt xs i ≡ entrySize + min (codesAt xs i) (rowAt xs i)
   bytes-step i h =
       omega (
@@ -98,6 +102,7 @@ pub record Fits (xs : List ℕ) (i : ℕ) : Type 0 where
   pub from : past xs i ≤ reachAt xs i
   pub reach : reachAt xs i ≤ mostAhead
   pub bytes : bytesAt xs i ≤ mostAhead
+  pub codes : codesAt xs i ≤ mostAhead
 
 pub record StepFits (xs : List ℕ) (i : ℕ) : Type 0 where
   pub from : past xs i ≤ getD xs i 0
@@ -111,6 +116,7 @@ module _ {xs : List ℕ} (l : Listed xs) where
     reach =
         omega (arith, reach-most (past xs i) (drop i xs), beyond-drop xs i h, beyond-past xs, l .small, largest-coded);
     bytes = omega (arith, bytes-most (past xs i) (drop i xs), length-drop i xs, l .few, most-counted);
+    codes = omega (arith, codes-most (past xs i) (drop i xs), length-drop i xs, l .few, most-counted);
   }
 
   pub step-fits : (i : ℕ) → i < length xs → StepFits xs i
@@ -118,3 +124,25 @@ module _ {xs : List ℕ} (l : Listed xs) where
     from = past-getD xs i h (l .rising);
     step = omega (arith, fits (i + 1) (omega arith) .start, past-next xs i);
   }
+
+  -- ---- as the planner's turns have them
+
+  -- codes that end where other codes begin are not fewer than one block of them
+  pub codes-turn : (i : ℕ) → i < length xs
+      → codesAt xs i ≡ codeSize (getD xs i 0 - past xs i) + min (codesAt xs (i + 1)) (entrySize + rowAt xs (i + 1))
+  codes-turn i h =
+      by-lt (i + 1) (length xs)
+      (λ k. omega (arith, codes-step xs i h, codes-one xs i h, bytes-step xs (i + 1) k))
+      (λ k.
+      let e : i + 1 ≡ length xs = omega arith in
+      omega (arith, codes-step xs i h, codes-one xs i h, ap (bytesAt xs) e, bytes-end xs, ap (codesAt xs) e, codes-end xs))
+
+  -- a row reaches no less than where it ends
+  pub reach-turn : (i : ℕ) → i < length xs
+      → reachAt xs i ≡ min (reachAt xs (i + 1)) (byteBits * (entrySize + codesAt xs (i + 1)) + past xs (i + 1))
+  reach-turn i h =
+      by-lt (i + 1) (length xs)
+      (λ k. omega (arith, reach-step xs i h, bytes-step xs (i + 1) k, fits (i + 1) (omega arith) .from))
+      (λ k.
+      let e : i + 1 ≡ length xs = omega arith in
+      omega (arith, reach-step xs i h, ap (bytesAt xs) e, bytes-end xs, ap (codesAt xs) e, codes-end xs, ap (reachAt xs) e, reach-end xs, ap (past xs) e))

@@ -6,7 +6,7 @@ use native.Mathlib.Omega.{arith}
 use native.Mathlib.Numerals.{add-one}
 use borrow.Author.Count.{below-more}
 use Rattle.lists.proofs.Choice.{by-lt}
-use Rattle.plan.specs.Work.{Stops}
+use Rattle.plan.specs.Work.{Scanning, Stops}
 
 -- what holds from the rank after `i` on
 pub upward : (P : ℕ → Type 0) (i : ℕ) → P (i + 1) → ((j : ℕ) → i < j → P j → P (j + 1)) → (j : ℕ) → i < j → P j
@@ -16,12 +16,6 @@ upward P i p f (suc j) h =
     (λ g.
     let e : i + 1 ≡ suc j = omega arith in
     subst P e p)
-
--- a scan has come to `j`
-pub record Scanning (On : ℕ → Type 0) (n i j : ℕ) : Type 0 where
-  pub after : i < j
-  pub within : j ≤ n
-  pub passed : (u : ℕ) → u < j → i < u → On u
 
 module _ {On : ℕ → Type 0} {n i : ℕ} where
   pub scan-start : i < n → Scanning On n i (i + 1)
@@ -34,6 +28,18 @@ module _ {On : ℕ → Type 0} {n i : ℕ} where
       within = omega arith;
       passed = below-more (λ u. i < u → On u) j (s .passed) (λ g. t);
     }
+
+    -- many at once
+    pub scan-many : (k : ℕ) → j + k ≤ n → ((u : ℕ) → j ≤ u → u < j + k → On u) → Scanning On n i (j + k)
+    scan-many k h f = record {
+      after = omega (arith, s .after);
+      within = h;
+      passed = λ u a b. by-lt u j (λ g. s .passed u g b) (λ g. f u g a);
+    }
+
+    -- the same, said otherwise
+    pub scan-as : {Q : ℕ → Type 0} → ((u : ℕ) → On u → Q u) → Scanning Q n i j
+    scan-as f = record { after = s .after; within = s .within; passed = λ u a b. f u (s .passed u a b) }
 
     pub scan-stop : (On j → ⊥) → Stops On n i j
     scan-stop t = record { after = s .after; within = s .within; passed = λ u a b. s .passed u b a; stopped = λ h. t }

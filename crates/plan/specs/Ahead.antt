@@ -6,11 +6,18 @@ use Rattle.lists.specs.Rising.{past}
 use Rattle.rules.specs.Sizes.{entrySize}
 use Rattle.code.specs.Code.{codeSize}
 use Rattle.row.specs.Row.{byteBits, rowSize}
-use Rattle.plan.specs.declared.Ahead.{Ahead}
+use Rattle.plan.specs.declared.Turn.{Turn}
 
 -- none of them is above this, so that eight times one of them and another fit 32 bits
 abbrev pub mostAhead : ℕ
 mostAhead = 2 ^ 28
+
+-- Of a list: the fewest bytes of its blocks; the fewest bytes of a first block of codes, its entry aside, and of all the blocks after it; and
+-- the least of 8 · (the bytes after a first block) + (one past its last step).
+pub record Ahead : Type 0 where
+  pub bytes : ℕ
+  pub codes : ℕ
+  pub reach : ℕ
 
 -- One step more in front: its code has `g` bytes, it is `o` at the least, and one past it is `p`. A first block ends with this step, or goes
 -- on as one from the next step on does.
@@ -20,8 +27,7 @@ grown g o p a =
     let reach = min (a .reach) (byteBits * a .bytes + p) in
     record { bytes = entrySize + min codes (rowSize (reach - o)); codes = codes; reach = reach }
 
--- Of a list that begins at `o` at the earliest: the fewest bytes of its blocks; the fewest bytes of a first block of codes, its entry aside,
--- and of all the blocks after it; and the least of 8 · (the bytes after a first block) + (one past its last step).
+-- of a list that begins at `o` at the earliest
 unfoldable pub aheadOf : ℕ → List ℕ → Ahead
 aheadOf o [] = record { bytes = 0; codes = 0; reach = o }
 aheadOf o (y ∷ ys) = grown (codeSize (y - o)) o (suc y) (aheadOf (suc y) ys)
@@ -43,3 +49,10 @@ reachAt xs i = aheadAt xs i .reach
 -- and the fewest bytes of a first block that is a row, its entry aside, and of all the blocks after it
 abbrev pub rowAt : List ℕ → ℕ → ℕ
 rowAt xs i = rowSize (reachAt xs i - past xs i)
+
+-- A turn of the planner. It goes without the fewest bytes of all: codes that end where other codes begin are not fewer than one block of them,
+-- and a row reaches no less than where it ends.
+abbrev pub turned : ℕ → ℕ → ℕ → Turn → Turn
+turned g o p t =
+    let reach = min (t .reach) (byteBits * (entrySize + t .codes) + p) in
+    record { codes = g + min (t .codes) (t .row); row = entrySize + rowSize (reach - o); reach = reach }

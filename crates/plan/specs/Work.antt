@@ -30,6 +30,12 @@ pub record Ready (xs work : List ℕ) (i : ℕ) : Type 0 where
   pub reach : (u : ℕ) → i ≤ u → u < length xs → getD work (2 * u) 0 ≡ reachAt xs u
   pub codes : (u : ℕ) → i ≤ u → u < length xs → getD work (2 * u + 1) 0 ≡ codesAt xs u
 
+-- a scan that goes up from the rank after `i` has come to `j`
+pub record Scanning (On : ℕ → Type 0) (n i j : ℕ) : Type 0 where
+  pub after : i < j
+  pub within : j ≤ n
+  pub passed : (u : ℕ) → u < j → i < u → On u
+
 -- the first rank above `i` that does not go on, or `n` where each below does
 pub record Stops (On : ℕ → Type 0) (n i r : ℕ) : Type 0 where
   pub after : i < r
@@ -44,6 +50,10 @@ CodesEnd xs i r = Stops (λ (j : ℕ). codesAt xs j ≤ bytesAt xs j) (length xs
 -- where `b` bytes, those of a row from rank `i` on and of all the blocks after it, still reach what lies ahead
 abbrev pub RowEnd : List ℕ → ℕ → ℕ → ℕ → Type 0
 RowEnd xs i b r = Stops (λ (j : ℕ). reachAt xs j ≤ past xs i + byteBits * b) (length xs) i r
+
+-- up to `r` no rank reaches beyond `top`
+abbrev pub Covered : List ℕ → ℕ → ℕ → ℕ → Type 0
+Covered xs i top r = Scanning (λ (j : ℕ). reachAt xs j ≤ top) (length xs) i r
 
 -- the word of the first block of the best cut from rank `i` on
 pub record Chosen (xs : List ℕ) (i word : ℕ) : Type 0 where

@@ -2,8 +2,8 @@
 //
 // With P_i one past the step before rank i, F_i the fewest bytes of the blocks from rank i on, and C(i, j) the bytes of the codes of the steps
 // from i up to j: a block of codes from i up to j and the rest have 13 + C(i, j) + F_j bytes, and a row has 13 + ⌈(Y_j − P_i) / 8⌉, where
-// Y_j = 8·F_j + P_j. So going back from the end, two numbers are enough: the least of C(i, j) + F_j, and the least of Y_j, over all ends j. Which
-// end the tie rule wants is asked only at the blocks that are written, going forward.
+// Y_j = 8·F_j + P_j. So going back from the end, two numbers are enough: the least of C(i, j) + F_j, and the least of Y_j, over all ends j; F_j
+// itself is the lesser of the two blocks that they give. Which end the tie rule wants is asked only at the blocks that are written, going forward.
 
 ghost use mathlib.Core.Path.{_≡_};
 ghost use Prim.Native.Nat.{_+_, _*_, _<_, _≤_, min};
@@ -13,13 +13,19 @@ ghost use Rattle.rules.specs.Limits.{mostSteps};
 ghost use Rattle.rules.specs.Sizes.{workFor};
 ghost use Rattle.rules.specs.Listed.{Listed};
 ghost use Rattle.row.specs.Row.{rowSize};
-ghost use Rattle.plan.specs.Ahead.{mostAhead, grown, bytesAt, rowAt};
+ghost use Rattle.plan.specs.Ahead.{mostAhead, turned, bytesAt, rowAt};
 ghost use Rattle.plan.specs.Planned.{Planned, Marked, cutOf};
-ghost use Rattle.plan.specs.Work.{Kept, Sized, Ready, CodesEnd, RowEnd, Chosen};
+ghost use Rattle.plan.specs.Work.{Kept, Sized, Ready, CodesEnd, RowEnd, Chosen, Covered};
 
 const BYTE_BITS: u32 = 8;
 
 const ENTRY_SIZE: u32 = rules::ENTRY_SIZE as u32;
+
+// The bits of an entry's bytes.
+const ENTRY_BITS: u32 = BYTE_BITS * ENTRY_SIZE;
+
+// The ranks that a look for the end of a row passes at once.
+const STRIDE: usize = 16;
 
 // The kinds of a block.
 const CODES: usize = 0;
@@ -32,10 +38,11 @@ pub struct Totals {
     pub bytes: usize,
 }
 
-// Of the steps from rank i on: F_i, the least C(i, j) + F_j, and the least Y_j.
-struct Ahead {
-    bytes: u32,
+// Of the steps from rank i on: the least C(i, j) + F_j, which is a first block of codes with all that follows, its entry aside; the same of a
+// row, with its entry; and the least Y_j.
+struct Turn {
     codes: u32,
+    row: u32,
     reach: u32,
 }
 
@@ -56,23 +63,23 @@ fn smaller(a: u32, b: u32) -> u32
 
 // The bytes of a row.
 fn row_size(span: u32) -> u32
-    requires { ⌜ span ≤ mostAhead ⌝ }
+    requires { ⌜ span ≤ mostAhead + mostAhead ⌝ }
     ensures { λ r. ⌜ r ≡ rowSize span ⌝ }
 {
     (span + (BYTE_BITS - 1)) / BYTE_BITS
 }
 
-// The numbers ahead with one step more in front: its code has `size` bytes, it is `from` at the least, and one past it is `next`.
-fn grow(ahead: Ahead, size: u32, from: u32, next: u32) -> Ahead
-    requires { ⌜ (from ≤ next) × (from ≤ ahead .reach) ⌝ }
-    requires { ⌜ (size ≤ mostAhead) × (next ≤ mostAhead) × (ahead .reach ≤ mostAhead) × (ahead .bytes ≤ mostAhead) ⌝ }
-    ensures { λ r. ⌜ r ≡ grown size from next ahead ⌝ }
+// The numbers with one step more in front: its code has `size` bytes, it is `from` at the least, and one past it is `next`. What each needs of
+// the others is little, so that a turn waits for the one before it as short as can be.
+fn grow(turn: Turn, size: u32, from: u32, next: u32) -> Turn
+    requires { ⌜ (from ≤ next) × (from ≤ turn .reach) ⌝ }
+    requires { ⌜ (size ≤ mostAhead) × (next ≤ mostAhead) × (turn .reach ≤ mostAhead) × (turn .codes ≤ mostAhead) ⌝ }
+    ensures { λ r. ⌜ r ≡ turned size from next turn ⌝ }
 {
-    let codes = size + smaller(ahead.bytes, ahead.codes);
-    let reach = smaller(ahead.reach, BYTE_BITS * ahead.bytes + next);
-    Ahead {
-        bytes: ENTRY_SIZE + smaller(codes, row_size(reach - from)),
-        codes,
+    let reach = smaller(turn.reach, BYTE_BITS * turn.codes + (next + ENTRY_BITS));
+    Turn {
+        codes: size + smaller(turn.codes, turn.row),
+        row: row_size(reach - from + ENTRY_BITS),
         reach,
     }
 }
@@ -102,20 +109,23 @@ fn values(list: &[u32], work: &mut [u32]) -> u32
 {
     let mut i = list.len();
     let mut next = past_at(list, i);
-    let mut ahead = Ahead {
-        bytes: 0,
+    let mut turn = Turn {
         codes: 0,
+        row: ENTRY_SIZE,
         reach: next,
     };
     while 0 < i {
         i -= 1;
         let from = past_at(list, i);
-        ahead = grow(ahead, work[2 * i + 1], from, next);
-        work[2 * i] = ahead.reach;
-        work[2 * i + 1] = ahead.codes;
+        turn = grow(turn, work[2 * i + 1], from, next);
+        work[2 * i] = turn.reach;
+        work[2 * i + 1] = turn.codes;
         next = from;
     }
-    ahead.bytes
+    if list.len() == 0 {
+        return 0;
+    }
+    smaller(ENTRY_SIZE + turn.codes, turn.row)
 }
 
 // The fewest bytes of a row from rank i on with all the blocks after it, the row's entry aside.
@@ -141,13 +151,28 @@ fn codes_end(list: &[u32], work: &[u32], i: usize) -> usize
     j
 }
 
+// A rank after i up to which no rank reaches beyond `top`: a later one reaches no less, so that one look passes many.
+fn covered(list: &[u32], work: &[u32], i: usize, top: u32) -> usize
+    requires { ⌜ Ready (now list) (now work) i × (i < length (now list)) ⌝ }
+    ensures { λ r. ⌜ Covered (now (list .entry)) i top r ⌝ }
+{
+    let mut j = i + 1;
+    while j + STRIDE <= list.len() {
+        if top < work[2 * (j + (STRIDE - 1))] {
+            return j;
+        }
+        j += STRIDE;
+    }
+    j
+}
+
 // The largest end of a row from rank i that, with the rest, has no more than `r` bytes besides its entry.
 fn row_end(list: &[u32], work: &[u32], i: usize, r: u32) -> usize
     requires { ⌜ Ready (now list) (now work) i × (i < length (now list)) × (r ≤ mostAhead) ⌝ }
     ensures { λ e. ⌜ RowEnd (now (list .entry)) i r e ⌝ }
 {
     let top = past_at(list, i) + BYTE_BITS * r;
-    let mut j = i + 1;
+    let mut j = covered(list, work, i, top);
     while j < list.len() {
         if top < work[2 * j] {
             return j;

@@ -8,7 +8,8 @@ use borrow.Author.Needs.{needs}
 use lib.ListN.{length, getD}
 use Rattle.plan.specs.Ahead.{bytesAt, codesAt}
 use Rattle.plan.proofs.Ranks.{bytes-step, fits}
-use Rattle.plan.proofs.Scans.{Scanning, scan-start, scan-on, scan-stop, scan-end}
+use Rattle.plan.specs.Work.{Scanning}
+use Rattle.plan.proofs.Scans.{scan-start, scan-on, scan-stop, scan-end}
 use Rattle.plan.proofs.Passes.{ready-on}
 use Rattle.plan.proofs.codes_end.Statement.{statement}
 use Rattle.plan.proofs.codes_end.Tie as tie

@@ -9,7 +9,8 @@ use Rattle.lists.specs.Rising.{past}
 use Rattle.row.specs.Row.{byteBits}
 use Rattle.plan.specs.Ahead.{reachAt}
 use Rattle.plan.proofs.Ranks.{fits}
-use Rattle.plan.proofs.Scans.{Scanning, scan-start, scan-on, scan-stop, scan-end}
+use Rattle.plan.specs.Work.{Scanning}
+use Rattle.plan.proofs.Scans.{scan-as, scan-on, scan-stop, scan-end}
 use Rattle.plan.proofs.row_end.Statement.{statement}
 use Rattle.plan.proofs.row_end.Tie as tie
 
@@ -20,13 +21,13 @@ abbrev μ-loop : tie.MeasureT-loop
 μ-loop list work i r top j₀ j = length list - j
 
 abbrev start : tie.In-loop Inv-loop μ-loop → tie.Start Inv-loop μ-loop
-start c = c .before .before .before .before .before
+start c = c .before .before .before .before .before .before
 
 word : (c : tie.In-loop Inv-loop μ-loop) → getD (start c .args .work .now) (2 * c .before .loop .j) 0 ≡ reachAt (start c .args .list .now) (c .before .loop .j)
 word c = start c .pre .0 .reach (c .before .loop .j) (omega (arith, c .before .loop .inv .after)) (c .loop-test .taken)
 
-top : (c : tie.In-loop Inv-loop μ-loop) → c .before .before .past-at .result ≡ past (start c .args .list .now) (start c .args .i)
-top c = c .before .before .past-at .ensures
+top : (c : tie.In-loop Inv-loop μ-loop) → c .before .before .before .past-at .result ≡ past (start c .args .list .now) (start c .args .i)
+top c = c .before .before .before .past-at .ensures
 
 past-at-requires : tie.Need-past-at-requires Inv-loop μ-loop
 past-at-requires c κs = search needs
@@ -37,11 +38,11 @@ mul-top c = search needs
 add-top : tie.Need-add-top Inv-loop μ-loop
 add-top c = let a = c .before .before .before in omega (arith, fits (a .pre .0 .listed) (a .args .i) (omega arith) .start)
 
-add-j : tie.Need-add-j Inv-loop μ-loop
-add-j c = search needs
+covered-requires : tie.Need-covered-requires Inv-loop μ-loop
+covered-requires c κs = search needs
 
 loop-holds : tie.Need-loop-holds Inv-loop μ-loop
-loop-holds c = scan-start (c .before .before .before .pre .1)
+loop-holds c = scan-as (c .covered .ensures) (λ u h. omega (arith, h, c .before .past-at .ensures))
 
 mul-if1 : tie.Need-mul-if1 Inv-loop μ-loop
 mul-if1 c = search needs
@@ -57,8 +58,8 @@ returns c =
     let l = c .before .before in
     scan-stop (l .before .loop .inv) (λ h. omega (arith, word l, top l))
 
-add-j-2 : tie.Need-add-j-2 Inv-loop μ-loop
-add-j-2 c = search needs
+add-j : tie.Need-add-j Inv-loop μ-loop
+add-j c = search needs
 
 loop-less : tie.Need-loop-less Inv-loop μ-loop
 loop-less c = search needs
@@ -80,13 +81,13 @@ row-end-spec =
     past-at-requires
     mul-top
     add-top
-    add-j
+    covered-requires
     loop-holds
     mul-if1
     mul-if1-2
     shared-slice-read-if1
     returns
-    add-j-2
+    add-j
     loop-less
     loop-again
     returns-2)

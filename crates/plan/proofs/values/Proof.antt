@@ -1,19 +1,21 @@
 -- `plan::values` meets its contract. The loop's invariant: the numbers ahead of the ranks from `i` on stand in the work area and are known
 -- of rank `i`, and below `i` the sizes of the codes still stand.
 -- Assumes nothing.
+use mathlib.Core.Path.{_∙_}
 use Prim.Native.Nat.{_-_}
 use native.Mathlib.Omega.{arith}
 use borrow.Author.Needs.{needs}
 use lib.ListN.{length-set}
-use Rattle.plan.proofs.Passes.{Valuing, valuing-start, valuing-turn, valuing-fits, valuing-end}
+use Rattle.plan.proofs.Ranks.{fits}
+use Rattle.plan.proofs.Passes.{Valuing, valuing-start, valuing-turn, valuing-fits, valuing-end, valuing-none, valuing-some}
 use Rattle.plan.proofs.values.Statement.{statement}
 use Rattle.plan.proofs.values.Tie as tie
 
 abbrev Inv-loop : tie.InvT-loop
-Inv-loop list work₀ i₀ next₀ ahead₀ work i next ahead = Valuing list work₀ work i next ahead
+Inv-loop list work₀ i₀ next₀ turn₀ work i next turn = Valuing list work₀ work i next turn
 
 abbrev μ-loop : tie.MeasureT-loop
-μ-loop list work₀ i₀ next₀ ahead₀ work i next ahead = i
+μ-loop list work₀ i₀ next₀ turn₀ work i next turn = i
 
 past-at-requires : tie.Need-past-at-requires Inv-loop μ-loop
 past-at-requires c κs = search needs
@@ -81,7 +83,25 @@ same-length : tie.Need-same-length Inv-loop μ-loop
 same-length c = search needs
 
 returns : tie.Need-returns Inv-loop μ-loop
-returns c = valuing-end (c .before .loop .inv) (omega arith)
+returns c =
+    let v = c .before .before .loop .inv in
+    valuing-end v (omega arith) (valuing-none v (omega arith) (c .if1 .taken))
+
+add-smaller : tie.Need-add-smaller Inv-loop μ-loop
+add-smaller c =
+    let v = c .before .before .before .loop .inv in
+    omega (arith, v .codes, fits (v .ready .listed) _ (v .within) .codes)
+
+smaller-requires : tie.Need-smaller-requires Inv-loop μ-loop
+smaller-requires c κs = search needs
+
+same-length-2 : tie.Need-same-length-2 Inv-loop μ-loop
+same-length-2 c = search needs
+
+returns-2 : tie.Need-returns-2 Inv-loop μ-loop
+returns-2 c =
+    let v = c .before .before .before .before .loop .inv in
+    valuing-end v (omega arith) (c .smaller .ensures ∙ valuing-some v (omega arith) (c .before .before .if1 .left))
 
 pub values-spec : {M : Type 1} → statement M
 values-spec =
@@ -108,4 +128,8 @@ values-spec =
     loop-less
     loop-again
     same-length
-    returns)
+    returns
+    add-smaller
+    smaller-requires
+    same-length-2
+    returns-2)
