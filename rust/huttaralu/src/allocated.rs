@@ -5,9 +5,7 @@ use alloc::vec::Vec;
 use core::fmt;
 use core::iter::FusedIterator;
 
-use crate::{
-    most_bytes, plain, work_needed, Blocks, Counted, Cursor, Found, Image, Reason, Refusal, MOST_STEPS,
-};
+use crate::{most_bytes, plain, work_needed, Blocks, Counted, Cursor, Found, Image, Refusal, MOST_STEPS};
 
 /// An image that owns its bytes.
 ///
@@ -255,7 +253,7 @@ pub fn write(list: &[u32]) -> Result<ImageBuf, Refusal> {
 /// # Ok::<(), huttaralu::Refusal>(())
 /// ```
 pub fn both(first: impl AsRef<[u8]>, second: impl AsRef<[u8]>) -> Result<ImageBuf, Refusal> {
-    pair(plain::both, first.as_ref(), second.as_ref())
+    pair(plain::both, usize::min, first.as_ref(), second.as_ref())
 }
 
 /// Writes the shortest image of the steps that at least one of two images has.
@@ -270,7 +268,7 @@ pub fn both(first: impl AsRef<[u8]>, second: impl AsRef<[u8]>) -> Result<ImageBu
 /// # Ok::<(), huttaralu::Refusal>(())
 /// ```
 pub fn either(first: impl AsRef<[u8]>, second: impl AsRef<[u8]>) -> Result<ImageBuf, Refusal> {
-    pair(plain::either, first.as_ref(), second.as_ref())
+    pair(plain::either, |first, second| first + second, first.as_ref(), second.as_ref())
 }
 
 /// Writes the shortest image of the steps that the first image has and the second has not.
@@ -285,22 +283,27 @@ pub fn either(first: impl AsRef<[u8]>, second: impl AsRef<[u8]>) -> Result<Image
 /// # Ok::<(), huttaralu::Refusal>(())
 /// ```
 pub fn without(first: impl AsRef<[u8]>, second: impl AsRef<[u8]>) -> Result<ImageBuf, Refusal> {
-    pair(plain::without, first.as_ref(), second.as_ref())
+    pair(plain::without, |first, _| first, first.as_ref(), second.as_ref())
 }
 
 type Lent = fn(&[u8], &[u8], &mut [u32], &mut [u32], &mut [u8]) -> Result<Counted, Refusal>;
 
-fn pair(operation: Lent, first: &[u8], second: &[u8]) -> Result<ImageBuf, Refusal> {
-    // Asked with nothing lent, the library tells how many steps the result has.
-    let n = match operation(first, second, &mut [], &mut [], &mut []) {
-        Err(refusal) if refusal.reason() == Reason::StepsTooShort => refusal.place() as usize,
-        Err(refusal) if refusal.reason() == Reason::WorkTooShort => 0,
-        Err(refusal) => return Err(refusal),
-        Ok(counted) => counted.steps,
+/// An operation whose result has at most so many steps, by the number of steps of each image.
+fn pair(
+    operation: Lent,
+    most: fn(usize, usize) -> usize,
+    first: &[u8],
+    second: &[u8],
+) -> Result<ImageBuf, Refusal> {
+    let most = match (plain::check(first), plain::check(second)) {
+        (Ok(first), Ok(second)) => most(first, second).min(MOST_STEPS),
+        // The operation refuses it too, and says which of the two it is.
+        _ => 0,
     };
-    let mut steps = vec![0; n];
-    let mut work = vec![0; work_needed(n)];
-    let mut out = vec![0; most_bytes(n)];
+    // Room for the most steps spares the library a walk to count them. What it does not need is not touched.
+    let mut steps = vec![0; most];
+    let mut work = vec![0; work_needed(most)];
+    let mut out = vec![0; most_bytes(most)];
     let counted = operation(first, second, &mut steps, &mut work, &mut out)?;
     Ok(ImageBuf::written(out, counted))
 }
