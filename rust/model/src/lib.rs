@@ -1,7 +1,7 @@
 //! Document 01 once more, in slow and obvious Rust.
 //!
-//! It is written from the document alone and shares nothing with the library, so that the two can be held
-//! against each other. An image is judged by reading all of it into a list, every question is asked of that
+//! It follows the document and shares nothing with the library, so that the two can be held against each
+//! other. An image is judged by reading all of it into a list, every question is asked of that
 //! list, and the shortest image is found by trying every end of every block. [`brute`] goes further and tries
 //! every cut there is.
 
