@@ -3,7 +3,6 @@
 -- Assumes nothing.
 use mathlib.Core.Path.{_≡_, refl, sym, subst}
 use mathlib.Core.Logic.{_↔_}
-use mathlib.Core.Bool.{Bool, true, false}
 use mathlib.Core.List.{List, [], _∷_}
 use Prim.Native.Nat.{ℕ, _+_, _*_, _≤_, _<_}
 use native.Mathlib.Omega.{arith}
@@ -13,7 +12,7 @@ use lib.ListN.{length, getD, drop}
 use Rattle.lists.specs.Choice.{pick}
 use Rattle.lists.specs.Below.{below}
 use Rattle.lists.specs.Bytes.{Bytes}
-use Rattle.lists.proofs.Choice.{by-lt, pick-yes, pick-no}
+use Rattle.lists.proofs.Choice.{either-way, by-lt, pick-yes, pick-no}
 use Rattle.rules.specs.Limits.{mostSteps}
 use Rattle.rules.specs.Sizes.{workFor}
 use Rattle.rules.specs.Refusals.{afterTheYear, stepsTooShort, rankTooLarge, noSuchCursor, refusal}
@@ -56,11 +55,6 @@ only-if a b k r p h = (
   λ l. subst Accepts (sym (pick-yes _ _ _ (lt-ltb a b l))) h,
 )
 
--- what is accepted either way
-either-way : (b : Bool) (p q : Paper) → Accepts p → Accepts q → Accepts (pick b p q)
-either-way true p q h g = h
-either-way false p q h g = g
-
 pub clock-accepts : (s : ℕ) → Accepts (clock.promised s) ↔ (s < clock.daySteps * clock.yearDays)
 clock-accepts s = only-if s (clock.daySteps * clock.yearDays) clock.values (refusal afterTheYear 0) (clock.timeOf s) refl
 
@@ -101,7 +95,7 @@ module _ {s : List ℕ} (w : Bytes s) where
 
   pub first-accepts : (x : ℕ) → Accepts (first.promised s x) ↔ Image s
   first-accepts x = by-image (first.firstIn x) (λ r. refuses)
-      (λ xs. either-way (ltb (below xs x) (length xs)) (first.finding (getD xs (below xs x) 0) (below xs x)) first.nothing refl refl)
+      (λ xs. either-way Accepts (ltb (below xs x) (length xs)) refl refl)
 
   pub start-accepts : Accepts (cursor.startPromise s) ↔ Image s
   start-accepts = by-image cursor.startIn (λ r. refuses) (λ xs. refl)
@@ -110,7 +104,7 @@ module _ {s : List ℕ} (w : Bytes s) where
   next-accepts k =
       by-verdict (cursor.nextIn k) (λ r. refuses) (λ xs. k ≤ length xs)
       (λ xs. unless (length xs) k cursor.values (refusal noSuchCursor 0) _
-      (either-way (ltb k (length xs)) (cursor.giving (getD xs k 0) (k + 1)) (cursor.standing k) refl refl))
+      (either-way Accepts (ltb k (length xs)) refl refl))
 
   pub skip-accepts : (k x : ℕ) → Accepts (cursor.skipPromise k s x) ↔ ImageWhere s (λ xs. k ≤ length xs)
   skip-accepts k x =

@@ -29,7 +29,7 @@ use Rattle.demands.proofs.Accepting.{
 }
 use Rattle.demands.proofs.Keeping.{read-keeps, write-keeps, pair-keeps}
 use Rattle.demands.proofs.Answering.{accepted-exactly, answers-of, wrote-shortest}
-use Rattle.demands.proofs.Linking.{made-links, made-writes}
+use Rattle.demands.proofs.Linking.{ends-write, made-links, made-writes}
 
 -- every input has one outcome, only document 01's table refuses, and a refusal says what every buffer holds
 pub every-input : EveryInput
@@ -68,4 +68,4 @@ plain-lists = record { accepted = accepted-exactly; one-list = accepted-one; ans
 
 -- an operation gives what writing the set gives
 pub plain-sets : PlainSets
-plain-sets = record { writes = made-writes; links = made-links; same = chains-same; least = chain-least }
+plain-sets = record { writes = made-writes; links = made-links; chain-writes = ends-write; same = chains-same; least = chain-least }

@@ -47,6 +47,10 @@ pub record PlainSets : Type 0 where
   -- so it is a link of a chain, whatever images it was given
   pub links : (op : Operation) {one two xs ys : List ℕ} → Accepted one xs → Accepted two ys → {b : List ℕ} → Made op one two b
       → Link op one two b
+  -- what a chain ends in is what writing the set that it means leaves
+  pub chain-writes : (op : Operation) (t u : Thing) {b : List ℕ} → Ends (made op t u) b
+      → {zs c : List ℕ} → ((z : ℕ) → has z zs ≡ means (made op t u) z) → Wrote zs c
+      → b ≡ c
   -- chains that mean the same set end in the same bytes
   pub same : (op : Operation) (t u : Thing) (op′ : Operation) (t′ u′ : Thing) {b c : List ℕ}
       → Ends (made op t u) b → Ends (made op′ t′ u′) c → ((z : ℕ) → means (made op t u) z ≡ means (made op′ t′ u′) z)
