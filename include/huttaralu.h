@@ -266,11 +266,9 @@ struct hutt_moved hutt_skip(struct hutt_cursor cursor, const uint8_t *image, siz
  * Buffers:  steps holds the n steps in its first n places, out the image at its front, and the
  *           first HUTT_WORK_NEEDED(n) numbers of work are 0; the rest of each is unchanged. A
  *           refusal changes nothing, except 15: steps and work are then as after acceptance.
- * Cost:     passes over both images, and then that of hutt_write for the result. One pass is saved
- *           where steps and work have room for the most steps that a result can have: the shorter
- *           of the two lists for both, their sum for either, the first for without. With
- *           steps_len 0 a result of any steps is refused by 16, which tells n before anything is
- *           planned.
+ * Cost:     two checks, a pass over both images that counts the result, one that stores it, and
+ *           then that of hutt_write for the result. With steps_len 0 a result of any steps is
+ *           refused by 16, which tells n before anything is stored.
  */
 struct hutt_counted hutt_both(const uint8_t *first, size_t first_len, const uint8_t *second,
                               size_t second_len, uint32_t *steps, size_t steps_len, uint32_t *work,

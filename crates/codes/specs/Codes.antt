@@ -8,7 +8,7 @@ use Rattle.lists.specs.Gaps.{gaps, fromGaps}
 use Rattle.code.specs.declared.Flaw.{Flaw}
 use Rattle.code.specs.declared.Reading.{Reading}
 use Rattle.code.specs.declared.Reading.the-variants.{Code, Bad}
-use Rattle.code.specs.Code.{codeValues, codeOf, readAt}
+use Rattle.code.specs.Code.{oneGroup, codeValues, codeOf, readAt}
 use Rattle.codes.specs.declared.Tally.{Tally}
 use Rattle.codes.specs.declared.Tally.the-variants.{Steps, Wrong}
 
@@ -50,6 +50,15 @@ Small (x ∷ xs) = (x < codeValues) × Small xs
 -- the codes of the steps of a list that begins at `o` at the earliest
 unfoldable pub codesFor : ℕ → List ℕ → List ℕ
 codesFor o xs = codesOf (gaps o xs)
+
+-- the steps whose codes are written at once where each is a single byte
+abbrev pub group : ℕ
+group = 16
+
+-- each gap of a list has a code of a single byte
+abbrev pub Near : ℕ → List ℕ → Type 0
+Near o [] = Unit {0}
+Near o (x ∷ xs) = (x - o < oneGroup) × Near (suc x) xs
 
 -- the steps for values that are gaps
 abbrev pub asSteps : ℕ → Values → Values

@@ -1,16 +1,26 @@
 // A block of codes: for each step the code of (step − step before it − 1). Checking it, reading its steps, the step at an index, where a
-// bound falls, and writing it. Each goes code by code, and by the promise of the byte code alone.
+// bound falls, and writing it. Each goes by the promise of the byte code alone: code by code, where many codes cannot be passed at once.
 
 ghost use mathlib.Core.Path.{_≡_};
-ghost use Prim.Native.Nat.{_+_, _^_, _≤_, _<_};
-ghost use lib.ListN.{length, getD};
+ghost use Prim.Native.Nat.{_+_, _*_, _^_, _≤_, _<_};
+ghost use lib.ListN.{length, getD, drop};
 ghost use lib.Seq.{sets};
 ghost use Rattle.lists.specs.Rising.{Rising, beyond};
 ghost use Rattle.lists.specs.Below.{below};
-ghost use Rattle.code.specs.Code.{codeValues};
-ghost use Rattle.codes.specs.Codes.{stepsFrom, tallyOf, listOf, Sound, Turn, codesFor};
+ghost use Rattle.lists.specs.Parts.{part};
+ghost use Rattle.code.specs.Code.{oneGroup, codeValues};
+ghost use Rattle.codes.specs.Codes.{stepsFrom, tallyOf, listOf, Sound, Turn, codesFor, group, Near};
 use code::Flaw;
 use code::Reading;
+
+// The gaps below have codes of a single byte.
+const SINGLE_BYTE: u32 = 128;
+
+// Steps whose codes are written at once where each is a single byte.
+const GROUP: usize = 16;
+
+// Steps whose codes are written one by one before the next trial: where a long code is, more will follow.
+const ROUND: usize = 64;
 
 // What checking a block finds: how many steps and one past the last of them, or why and where the first code that fails.
 pub enum Tally {
@@ -30,20 +40,27 @@ pub struct Indexed {
     pub index: usize,
 }
 
-// Checks a block whose first step is at least `from`.
-pub fn check(part: &[u8], from: usize) -> Tally
-    requires { ⌜ (from < 2 ^ 32) × (length (now part) < 2 ^ 32) ⌝ }
-    ensures { λ r. ⌜ r ≡ tallyOf 0 from (stepsFrom from (now (part .entry)) 0) ⌝ }
+// The rank of the first step whose code was not put, and the place after the codes.
+struct Written {
+    upto: usize,
+    after: usize,
+}
+
+// Checks the codes of a block from a place on, one by one, after `count` steps that end before `from`.
+fn check_from(part: &[u8], start: usize, count: usize, from: usize) -> Tally
+    requires { ⌜ (start ≤ length (now part))
+        × ((length (now part) < 2 ^ 32) × ((count ≤ start) × (from ≤ 2 ^ 32 + start * codeValues))) ⌝ }
+    ensures { λ r. ⌜ r ≡ tallyOf count from (stepsFrom from (now (part .entry)) start) ⌝ }
 {
-    let mut at: usize = 0;
-    let mut count: usize = 0;
+    let mut at = start;
+    let mut found = count;
     let mut next = from;
     while at < part.len() {
         let r = code::read(part, at);
         match r {
             Reading::Code { value, next: after } => {
                 next = next + (value as usize) + 1;
-                count += 1;
+                found += 1;
                 at = after;
             }
             Reading::Bad(flaw) => {
@@ -51,7 +68,27 @@ pub fn check(part: &[u8], from: usize) -> Tally
             }
         }
     }
-    Tally::Steps { count, next }
+    Tally::Steps { count: found, next }
+}
+
+// Checks a block whose first step is at least `from`: many codes at once, as long as nothing is wrong and bytes are left.
+pub fn check(part: &[u8], from: usize) -> Tally
+    requires { ⌜ (from < 2 ^ 32) × (length (now part) < 2 ^ 32) ⌝ }
+    ensures { λ r. ⌜ r ≡ tallyOf 0 from (stepsFrom from (now (part .entry)) 0) ⌝ }
+{
+    let mut at: usize = 0;
+    let mut count: usize = 0;
+    let mut next = from;
+    while code::REACH <= part.len() - at {
+        let t = code::pass(part, at);
+        if t.after <= at {
+            return check_from(part, at, count, next);
+        }
+        count += t.count;
+        next += t.value + t.count;
+        at = t.after;
+    }
+    check_from(part, at, count, next)
 }
 
 // Reads the code at a place of a block that was checked, where the step is at least `next`.
@@ -91,12 +128,13 @@ pub fn steps(part: &[u8], from: usize, out: &mut [u32], at: usize) -> usize
     k
 }
 
-// The step at an index of a block that was checked.
-pub fn step_at(part: &[u8], from: usize, k: usize) -> usize
-    requires { ⌜ Sound from (stepsFrom from (now part) 0) × (k < length (listOf (stepsFrom from (now part) 0))) ⌝ }
-    ensures { λ r. ⌜ r ≡ getD (listOf (stepsFrom from (now (part .entry)) 0)) k 0 ⌝ }
+// The step at an index among those of a block that was checked from a place on, code by code.
+fn step_from(part: &[u8], start: usize, from: usize, k: usize) -> usize
+    requires { ⌜ (start ≤ length (now part))
+        × (Sound from (stepsFrom from (now part) start) × (k < length (listOf (stepsFrom from (now part) start)))) ⌝ }
+    ensures { λ r. ⌜ r ≡ getD (listOf (stepsFrom from (now (part .entry)) start)) k 0 ⌝ }
 {
-    let mut at: usize = 0;
+    let mut at = start;
     let mut next = from;
     let mut left = k;
     while at < part.len() {
@@ -111,15 +149,39 @@ pub fn step_at(part: &[u8], from: usize, k: usize) -> usize
     0
 }
 
-// The first step of a block that was checked at or after x, with its index; where there is none, 0 and the number of steps.
-pub fn first_in(part: &[u8], from: usize, x: usize) -> Indexed
-    requires { ⌜ Sound from (stepsFrom from (now part) 0) ⌝ }
-    ensures { λ r. ⌜ (r .index ≡ below (listOf (stepsFrom from (now (part .entry)) 0)) x)
-        × (r .step ≡ getD (listOf (stepsFrom from (now (part .entry)) 0)) (r .index) 0) ⌝ }
+// The step at an index of a block that was checked: many codes are passed at once, as long as the index is not among them.
+pub fn step_at(part: &[u8], from: usize, k: usize) -> usize
+    requires { ⌜ Sound from (stepsFrom from (now part) 0) × (k < length (listOf (stepsFrom from (now part) 0))) ⌝ }
+    ensures { λ r. ⌜ r ≡ getD (listOf (stepsFrom from (now (part .entry)) 0)) k 0 ⌝ }
 {
     let mut at: usize = 0;
     let mut next = from;
-    let mut index: usize = 0;
+    let mut left = k;
+    while code::REACH <= part.len() - at {
+        let t = code::pass(part, at);
+        if t.after <= at {
+            return step_from(part, at, next, left);
+        }
+        if left < t.count {
+            return step_from(part, at, next, left);
+        }
+        left -= t.count;
+        next += t.value + t.count;
+        at = t.after;
+    }
+    step_from(part, at, next, left)
+}
+
+// The first step at or after x of a block that was checked, from a place on, with its index after `passed` steps; where there is none, 0
+// and the number of steps. It goes code by code.
+fn first_from(part: &[u8], start: usize, from: usize, passed: usize, x: usize) -> Indexed
+    requires { ⌜ (start ≤ length (now part)) × (Sound from (stepsFrom from (now part) start) × (passed ≤ start)) ⌝ }
+    ensures { λ r. ⌜ (r .index ≡ passed + below (listOf (stepsFrom from (now (part .entry)) start)) x)
+        × (r .step ≡ getD (listOf (stepsFrom from (now (part .entry)) start)) (below (listOf (stepsFrom from (now (part .entry)) start)) x) 0) ⌝ }
+{
+    let mut at = start;
+    let mut next = from;
+    let mut index = passed;
     while at < part.len() {
         let c = next_step(part, at, next);
         if x <= c.step {
@@ -135,6 +197,32 @@ pub fn first_in(part: &[u8], from: usize, x: usize) -> Indexed
     Indexed { step: 0, index }
 }
 
+// The first step of a block that was checked at or after x, with its index; where there is none, 0 and the number of steps. Many codes are
+// passed at once, as long as all their steps are below x.
+pub fn first_in(part: &[u8], from: usize, x: usize) -> Indexed
+    requires { ⌜ Sound from (stepsFrom from (now part) 0) ⌝ }
+    ensures { λ r. ⌜ (r .index ≡ below (listOf (stepsFrom from (now (part .entry)) 0)) x)
+        × (r .step ≡ getD (listOf (stepsFrom from (now (part .entry)) 0)) (r .index) 0) ⌝ }
+{
+    let mut at: usize = 0;
+    let mut next = from;
+    let mut index: usize = 0;
+    while code::REACH <= part.len() - at {
+        let t = code::pass(part, at);
+        if t.after <= at {
+            return first_from(part, at, next, index, x);
+        }
+        let beyond = next + (t.value + t.count);
+        if x < beyond {
+            return first_from(part, at, next, index, x);
+        }
+        index += t.count;
+        next = beyond;
+        at = t.after;
+    }
+    first_from(part, at, next, index, x)
+}
+
 // How many steps of a block that was checked stand before the first at or after x.
 pub fn below_in(part: &[u8], from: usize, x: usize) -> usize
     requires { ⌜ Sound from (stepsFrom from (now part) 0) ⌝ }
@@ -143,8 +231,55 @@ pub fn below_in(part: &[u8], from: usize, x: usize) -> usize
     first_in(part, from, x).index
 }
 
-// Puts the codes of a rising list that begins at `from` at the earliest into bytes from a place on, and gives the place after them.
-pub fn put(list: &[u32], from: u32, out: &mut [u8], at: usize) -> usize
+// The larger of two numbers.
+fn larger(x: u32, y: u32) -> u32
+    ensures { λ r. ⌜ (x ≤ r) × (y ≤ r) ⌝ }
+{
+    if x < y {
+        return y;
+    }
+    x
+}
+
+// A number that no gap of a rising list exceeds.
+fn largest_gap(list: &[u32], from: u32) -> u32
+    requires { ⌜ Rising from (now list) × (beyond from (now list) ≤ codeValues) ⌝ }
+    ensures { λ r. ⌜ (r < oneGroup → Near from (now (list .entry))) ⌝ }
+{
+    let mut i: usize = 0;
+    let mut next = from;
+    let mut largest: u32 = 0;
+    while i < list.len() {
+        let x = list[i];
+        largest = larger(largest, x - next);
+        next = x + 1;
+        i += 1;
+    }
+    largest
+}
+
+// Puts codes that are single bytes.
+fn put_singles(list: &[u32], from: u32, out: &mut [u8], at: usize) -> usize
+    requires { ⌜ Near from (now list)
+        × (Rising from (now list) × ((beyond from (now list) ≤ codeValues) × (at + length (codesFor from (now list)) ≤ length (now out)))) ⌝ }
+    ensures { λ r. ⌜ (r ≡ at + length (codesFor from (now (list .entry))))
+        × (now (out .exit) ≡ sets (now (out .entry)) at (codesFor from (now (list .entry)))) ⌝ }
+{
+    let mut i: usize = 0;
+    let mut next = from;
+    let mut p = at;
+    while i < list.len() {
+        let x = list[i];
+        out[p] = (x - next) as u8;
+        next = x + 1;
+        p += 1;
+        i += 1;
+    }
+    p
+}
+
+// Puts the codes of a list, one by one.
+fn put_each(list: &[u32], from: u32, out: &mut [u8], at: usize) -> usize
     requires { ⌜ Rising from (now list) × ((beyond from (now list) ≤ codeValues) × (at + length (codesFor from (now list)) ≤ length (now out))) ⌝ }
     ensures { λ r. ⌜ (r ≡ at + length (codesFor from (now (list .entry))))
         × (now (out .exit) ≡ sets (now (out .entry)) at (codesFor from (now (list .entry)))) ⌝ }
@@ -159,4 +294,55 @@ pub fn put(list: &[u32], from: u32, out: &mut [u8], at: usize) -> usize
         i += 1;
     }
     p
+}
+
+// The rank after a round that begins at rank i of n steps, or after all of them where they are fewer.
+fn round_end(i: usize, n: usize) -> usize
+    requires { ⌜ i < n ⌝ }
+    ensures { λ r. ⌜ (i < r) × (r ≤ n) ⌝ }
+{
+    if n - i < ROUND {
+        return n;
+    }
+    i + ROUND
+}
+
+// Puts the codes of the next steps of a list: those of a group where each is a single byte, else those of a round, one by one.
+fn put_some(list: &[u32], i: usize, from: u32, out: &mut [u8], at: usize) -> Written
+    requires { ⌜ (i + group ≤ length (now list)) × (Rising from (drop i (now list))
+        × ((beyond from (drop i (now list)) ≤ codeValues) × (at + length (codesFor from (drop i (now list))) ≤ length (now out)))) ⌝ }
+    ensures { λ r. ⌜ ((i < r .upto) × (r .upto ≤ length (now (list .entry))))
+        × ((r .after ≡ at + length (codesFor from (part (now (list .entry)) i (r .upto))))
+        × (now (out .exit) ≡ sets (now (out .entry)) at (codesFor from (part (now (list .entry)) i (r .upto))))) ⌝ }
+{
+    let near = i + GROUP;
+    if largest_gap(&list[i..near], from) < SINGLE_BYTE {
+        return Written {
+            upto: near,
+            after: put_singles(&list[i..near], from, out, at),
+        };
+    }
+    let far = round_end(i, list.len());
+    Written {
+        upto: far,
+        after: put_each(&list[i..far], from, out, at),
+    }
+}
+
+// Puts the codes of a rising list that begins at `from` at the earliest into bytes from a place on, and gives the place after them.
+pub fn put(list: &[u32], from: u32, out: &mut [u8], at: usize) -> usize
+    requires { ⌜ Rising from (now list) × ((beyond from (now list) ≤ codeValues) × (at + length (codesFor from (now list)) ≤ length (now out))) ⌝ }
+    ensures { λ r. ⌜ (r ≡ at + length (codesFor from (now (list .entry))))
+        × (now (out .exit) ≡ sets (now (out .entry)) at (codesFor from (now (list .entry)))) ⌝ }
+{
+    let mut i: usize = 0;
+    let mut next = from;
+    let mut p = at;
+    while GROUP <= list.len() - i {
+        let t = put_some(list, i, next, out, p);
+        next = list[t.upto - 1] + 1;
+        i = t.upto;
+        p = t.after;
+    }
+    put_each(&list[i..], next, out, p)
 }

@@ -3,7 +3,7 @@
 use mathlib.Core.Path.{_≡_, refl, sym, ap, _∙_}
 use mathlib.Core.Bool.{Bool, true, false}
 use mathlib.Core.List.{List, [], _∷_}
-use Prim.Native.Nat.{ℕ, zero, suc, _+_, _≤_, _<_}
+use Prim.Native.Nat.{ℕ, suc, _+_, _<_}
 use native.Mathlib.Omega.{arith}
 use native.Mathlib.Decide.{decLt, ℕ-discrete}
 use mir.Val.{boolByte}
@@ -13,8 +13,7 @@ use Rattle.lists.specs.Members.{has}
 use Rattle.lists.proofs.Rising.{rising-weaken}
 use Rattle.lists.proofs.Members.{has-here, has-past, has-below}
 use Rattle.pair.specs.declared.Operation.{Operation}
-use Rattle.pair.specs.declared.Operation.the-variants.{Both, Either, Without}
-use Rattle.pair.specs.Result.{keeps, sieve, resultOf, mostOf}
+use Rattle.pair.specs.Result.{keeps, sieve, resultOf}
 use Rattle.pair.specs.Merge.{kept}
 use Rattle.pair.proofs.Result.{keeps-none, result-one, result-is, rising-result, has-result}
 
@@ -104,86 +103,3 @@ result-none op = refl
 pub length-kept : (b : Bool) (x : ℕ) (zs : List ℕ) → length (kept b x zs) ≡ boolByte b + length zs
 length-kept true x zs = omega arith
 length-kept false x zs = omega arith
-
--- as much for each step
-abbrev weigh : ℕ → List ℕ → ℕ
-weigh p [] = 0
-weigh p (x ∷ xs) = p + weigh p xs
-
-weigh-none : (xs : List ℕ) → weigh 0 xs ≡ 0
-weigh-none [] = refl
-weigh-none (x ∷ xs) = omega (arith, weigh-none xs)
-
-weigh-one : (xs : List ℕ) → weigh 1 xs ≡ length xs
-weigh-one [] = refl
-weigh-one (x ∷ xs) = omega (arith, weigh-one xs)
-
--- A result has no more steps than `p` for each of the first list and `q` for each of the second, if that is enough for a step that only one
--- of them has, and for one that both have.
-module _ (op : Operation) (p q : ℕ) (one : boolByte (keeps op true false) ≤ p) (other : boolByte (keeps op false true) ≤ q)
-    (both : boolByte (keeps op true true) ≤ p + q) where
-  module _ {o : ℕ} (xs ys : List ℕ) (h : length (resultOf op xs ys) ≤ weigh p xs + weigh q ys) where
-    weighed-first : (x : ℕ) → Rising o (x ∷ xs) → Rising (suc x) ys → length (resultOf op (x ∷ xs) ys) ≤ weigh p (x ∷ xs) + weigh q ys
-    weighed-first x u v =
-        omega (arith, ap length (result-first op x xs ys u v), length-kept (keeps op true false) x (resultOf op xs ys))
-
-    weighed-second : (y : ℕ) → Rising (suc y) xs → Rising o (y ∷ ys) → length (resultOf op xs (y ∷ ys)) ≤ weigh p xs + weigh q (y ∷ ys)
-    weighed-second y u v =
-        omega (arith, ap length (result-second op y xs ys u v), length-kept (keeps op false true) y (resultOf op xs ys))
-
-    weighed-same : (x y : ℕ) → x ≡ y → Rising o (x ∷ xs) → Rising o (x ∷ ys)
-        → length (resultOf op (x ∷ xs) (y ∷ ys)) ≤ weigh p (x ∷ xs) + weigh q (y ∷ ys)
-    weighed-same x y e u v =
-        omega (
-          arith,
-          ap (λ (z : ℕ). length (resultOf op (x ∷ xs) (z ∷ ys))) e,
-          ap length (result-same op x xs ys u v),
-          length-kept (keeps op true true) x (resultOf op xs ys),
-        )
-
-  -- `n` bounds how many steps there are
-  length-weighed : (n o : ℕ) (xs ys : List ℕ) → Rising o xs → Rising o ys → length xs + length ys ≤ n
-      → length (resultOf op xs ys) ≤ weigh p xs + weigh q ys
-  length-weighed n o [] [] u v h = rw (result-none op) (omega arith)
-  length-weighed zero o (x ∷ xs) ys u v h = absurd (omega arith)
-  length-weighed zero o [] (y ∷ ys) u v h = absurd (omega arith)
-  length-weighed (suc n) o (x ∷ xs) [] u v h = weighed-first xs [] (length-weighed n (suc x) xs [] (u .1) tt (omega arith)) x u tt
-  length-weighed (suc n) o [] (y ∷ ys) u v h = weighed-second [] ys (length-weighed n (suc y) [] ys tt (v .1) (omega arith)) y tt v
-  length-weighed (suc n) o (x ∷ xs) (y ∷ ys) u v h =
-      elim (decLt x y) [
-        | yes l ↦ weighed-first xs (y ∷ ys) (length-weighed n (suc x) xs (y ∷ ys) (u .1) (l, v .1) (omega arith)) x u (l, v .1)
-        | no l ↦
-            elim (decLt y x) [
-              | yes g ↦ weighed-second (x ∷ xs) ys (length-weighed n (suc y) (x ∷ xs) ys (g, u .1) (v .1) (omega arith)) y (g, u .1) v
-              | no g ↦
-                  let e : y ≡ x = omega arith in
-                  let w : Rising (suc x) ys = rw e at (v .1) in
-                  weighed-same xs ys (length-weighed n (suc x) xs ys (u .1) w (omega arith)) x y (sym e) u (u .0, w)
-            ]
-      ]
-
-  length-by : (o : ℕ) (xs ys : List ℕ) → Rising o xs → Rising o ys → length (resultOf op xs ys) ≤ weigh p xs + weigh q ys
-  length-by o xs ys u v = length-weighed (length xs + length ys) o xs ys u v (omega arith)
-
--- HOW MANY STEPS A RESULT HAS AT THE MOST
-pub length-result : (op : Operation) (o : ℕ) (xs ys : List ℕ) → Rising o xs → Rising o ys
-    → length (resultOf op xs ys) ≤ mostOf op (length xs) (length ys)
-length-result Both o xs ys u v =
-    omega (
-      arith,
-      length-by Both 1 0 (omega arith) (omega arith) (omega arith) o xs ys u v,
-      length-by Both 0 1 (omega arith) (omega arith) (omega arith) o xs ys u v,
-      weigh-one xs,
-      weigh-none xs,
-      weigh-one ys,
-      weigh-none ys,
-    )
-length-result Either o xs ys u v =
-    omega (arith, length-by Either 1 1 (omega arith) (omega arith) (omega arith) o xs ys u v, weigh-one xs, weigh-one ys)
-length-result Without o xs ys u v =
-    omega (arith, length-by Without 1 0 (omega arith) (omega arith) (omega arith) o xs ys u v, weigh-one xs, weigh-none ys)
-
-pub most-sum : (op : Operation) (n m : ℕ) → mostOf op n m ≤ n + m
-most-sum Both n m = omega arith
-most-sum Either n m = omega arith
-most-sum Without n m = omega arith

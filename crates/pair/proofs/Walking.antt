@@ -12,7 +12,7 @@ use lib.ListN.{length}
 use borrow.Author.Tests.{eq-eqb, ne-eqb}
 use Rattle.lists.specs.Bytes.{Bytes}
 use Rattle.lists.proofs.Choice.{by-lt}
-use Rattle.rules.specs.Limits.{mostSteps}
+use Rattle.lists.proofs.Rising.{rising-length}
 use Rattle.image.proofs.Taken.{steps-listed}
 use Rattle.image.specs.Taken.{stepsOf, Taken}
 use Rattle.walk.specs.declared.Walk.{Walk}
@@ -22,7 +22,8 @@ use Rattle.walk.proofs.Shapes.{ahead-step, ahead-none}
 use Rattle.pair.specs.declared.Operation.{Operation}
 use Rattle.pair.specs.Result.{keeps, resultOf}
 use Rattle.pair.specs.Merge.{headOf, pastOf, kept}
-use Rattle.pair.proofs.Turns.{length-kept, most-sum, length-result}
+use Rattle.pair.proofs.Result.{rising-result, beyond-result}
+use Rattle.pair.proofs.Turns.{length-kept}
 use Rattle.pair.proofs.Merging.{Below, past-below, past-length, past-less, merge-turn, merge-end}
 
 -- ---- one walk
@@ -39,7 +40,7 @@ along-first s pay w b t e =
 
 module _ (s pay : List ℕ) (w : Walk) where
   -- its step is the first of those ahead
-  head-ahead : Stands s pay w → headOf noStep (ahead s pay w) ≡ w .step
+  pub head-ahead : Stands s pay w → headOf noStep (ahead s pay w) ≡ w .step
   head-ahead t =
       by-lt (w .step) noStep (λ h. ap (headOf noStep) (ahead-step s pay w h))
       (λ h. ap (headOf noStep) (ahead-none s pay w h) ∙ omega (arith, t .placed .step))
@@ -175,10 +176,12 @@ pub kept-most : (k : Bool) → boolByte k ≤ 1
 kept-most true = omega arith
 kept-most false = omega arith
 
--- a result of lists of `n` and `m` steps, and so any of two lists, is not too long to be counted
-pub length-most : (op : Operation) (s t : List ℕ) → Bytes s → Bytes t → Taken s → Taken t
-    → length (resultOf op (stepsOf s) (stepsOf t)) ≤ mostSteps + mostSteps
+-- a result of two images is not too long to be counted
+pub length-most : (op : Operation) (s t : List ℕ) → Bytes s → Bytes t → Taken s → Taken t → length (resultOf op (stepsOf s) (stepsOf t)) ≤ noStep
 length-most op s t u v a b =
-    let l = steps-listed s u a in
-    let m = steps-listed t v b in
-    omega (arith, length-result op 0 (stepsOf s) (stepsOf t) (l .rising) (m .rising), most-sum op (length (stepsOf s)) (length (stepsOf t)), l .few, m .few)
+    let zs : List ℕ = resultOf op (stepsOf s) (stepsOf t) in
+    omega (
+      arith,
+      rising-length 0 zs (rising-result op (stepsOf s) (stepsOf t)),
+      beyond-result op (stepsOf s) (stepsOf t) noStep (steps-listed s u a .small) (steps-listed t v b .small),
+    )

@@ -1,7 +1,7 @@
 -- Both, either and first-without-second of two lists, as sets of steps.
 use mathlib.Core.Bool.{Bool, _&&_, _||_, not}
 use mathlib.Core.List.{List, [], _∷_}
-use Prim.Native.Nat.{ℕ, zero, suc, _+_, min, max}
+use Prim.Native.Nat.{ℕ, zero, suc, max}
 use Rattle.lists.specs.Choice.{pick}
 use Rattle.lists.specs.Rising.{beyond}
 use Rattle.lists.specs.Members.{has}
@@ -22,9 +22,3 @@ sieve (suc k) o p = pick (p o) (o ∷ sieve k (suc o) p) (sieve k (suc o) p)
 -- the steps of the result: those that the operation keeps, in order, up to the last step of either list
 unfoldable pub resultOf : Operation → List ℕ → List ℕ → List ℕ
 resultOf op xs ys = sieve (max (beyond 0 xs) (beyond 0 ys)) 0 (λ (z : ℕ). keeps op (has z xs) (has z ys))
-
--- the most steps that a result of lists of `n` and `m` steps can have
-abbrev pub mostOf : Operation → ℕ → ℕ → ℕ
-mostOf Both n m = min n m
-mostOf Either n m = n + m
-mostOf Without n m = n

@@ -3,7 +3,7 @@
 -- Assumes nothing.
 use mathlib.Core.Path.{_≡_, refl, sym, ap, subst, _∙_}
 use mathlib.Core.List.{List, []}
-use Prim.Native.Nat.{ℕ, _+_, _*_, _/_, _≤_, _<_}
+use Prim.Native.Nat.{ℕ, _+_, _/_, _≤_, _<_}
 use native.Mathlib.Omega.{arith}
 use lib.ListN.{length, getD, set, length-set}
 use lib.Seq.{getD-set-same, getD-set-other}
@@ -27,7 +27,7 @@ pub record Marking (xs work₀ work : List ℕ) (m i : ℕ) : Type 0 where
   pub ready : Ready xs work i
   pub kept : Kept (length xs) work₀ work
   pub count : m + length (left xs i) ≡ length (cutOf xs)
-  pub marked : (w : List ℕ) → ((p : ℕ) → p < 2 * i → getD w p 0 ≡ getD work p 0) → Marked w i (left xs i) → Marked w 0 (cutOf xs)
+  pub marked : (w : List ℕ) → ((p : ℕ) → p < i → getD w p 0 ≡ getD work p 0) → Marked w i (left xs i) → Marked w 0 (cutOf xs)
 
 pub marking-start : {xs work : List ℕ} → Ready xs work 0 → Marking xs work work 0 0
 marking-start r = record { within = omega arith; few = omega arith; ready = r; kept = kept-none; count = omega arith; marked = λ w a m. m }
@@ -37,30 +37,30 @@ pub chosen-upto : {xs : List ℕ} {i word : ℕ} (c : Chosen xs i word) → c .u
 chosen-upto c = sym (word-upto (block (c .kind) (c .upto))) ∙ ap (λ (w : ℕ). w / 2) (sym (c .is))
 
 pub marking-turn : {xs work₀ work : List ℕ} {m i word : ℕ} → Marking xs work₀ work m i → Chosen xs i word
-    → Marking xs work₀ (set work (2 * i) word) (m + 1) (word / 2)
+    → Marking xs work₀ (set work i word) (m + 1) (word / 2)
 marking-turn {xs} {work₀} {work} {m} {i} {word} k c =
-    subst (Marking xs work₀ (set work (2 * i) word) (m + 1)) (chosen-upto c)
+    subst (Marking xs work₀ (set work i word) (m + 1)) (chosen-upto c)
     (record {
       within = c .within;
       few = omega (arith, c .after, k .few);
       ready = record {
         listed = k .ready .listed;
-        room = omega (arith, k .ready .room, length-set work (2 * i) word);
-        reach = λ u h g. other (2 * u) (omega (arith, c .after)) ∙ k .ready .reach u (omega (arith, c .after)) g;
-        codes = λ u h g. other (2 * u + 1) (omega (arith, c .after)) ∙ k .ready .codes u (omega (arith, c .after)) g;
+        room = omega (arith, k .ready .room, length-set work i word);
+        reach = λ u h g. other u (omega (arith, c .after)) ∙ k .ready .reach u (omega (arith, c .after)) g;
+        codes = λ u h g. other (length xs + u) (omega (arith, c .after)) ∙ k .ready .codes u (omega (arith, c .after)) g;
       };
-      kept = kept-set (k .kept) (2 * i) word (omega (arith, c .after, c .within));
+      kept = kept-set (k .kept) i word (omega (arith, c .after, c .within));
       count = omega (arith, ap (length {A = Block}) (c .first), k .count);
       marked = λ w a r.
-          k .marked w (λ p h. a p (omega (arith, c .after)) ∙ getD-set-other work (2 * i) p word 0 (λ q. omega arith))
-          (subst (Marked w i) (sym (c .first)) (a (2 * i) (omega (arith, c .after)) ∙ here ∙ c .is, r));
+          k .marked w (λ p h. a p (omega (arith, c .after)) ∙ getD-set-other work i p word 0 (λ q. omega arith))
+          (subst (Marked w i) (sym (c .first)) (a i (omega (arith, c .after)) ∙ here ∙ c .is, r));
     })
   where
-    other : (p : ℕ) → 2 * i < p → getD (set work (2 * i) word) p 0 ≡ getD work p 0
-    other p h = getD-set-other work (2 * i) p word 0 (λ q. omega arith)
+    other : (p : ℕ) → i < p → getD (set work i word) p 0 ≡ getD work p 0
+    other p h = getD-set-other work i p word 0 (λ q. omega arith)
 
-    here : getD (set work (2 * i) word) (2 * i) 0 ≡ word
-    here = getD-set-same work (2 * i) word 0 (omega (arith, k .ready .room, c .after, c .within))
+    here : getD (set work i word) i 0 ≡ word
+    here = getD-set-same work i word 0 (omega (arith, k .ready .room, c .after, c .within))
 
 pub marking-end : {xs work₀ work : List ℕ} {m i : ℕ} → Marking xs work₀ work m i → length xs ≤ i
     → (m ≡ length (cutOf xs)) × Kept (length xs) work₀ work × Marked work 0 (cutOf xs)

@@ -9,16 +9,16 @@ use lib.ListN.{length, getD, set, length-set}
 use lib.Seq.{getD-set-same, getD-set-other, drop-set-lt}
 use Rattle.lists.specs.Rising.{past}
 use Rattle.lists.proofs.Choice.{by-lt}
-use Rattle.lists.proofs.Ranks.{past-next, past-le}
+use Rattle.lists.proofs.Ranks.{past-next}
 use Rattle.rules.specs.Sizes.{entrySize, workFor}
 use Rattle.rules.specs.Listed.{Listed}
 use Rattle.code.specs.Code.{codeSize}
 use Rattle.code.specs.Code.Laws.{size-most}
-use Rattle.row.specs.Row.{byteBits, rowSize}
+use Rattle.row.specs.Row.{byteBits}
 use Rattle.plan.specs.declared.Turn.{Turn}
-use Rattle.plan.specs.Ahead.{mostAhead, turned, bytesAt, codesAt, reachAt, rowAt}
+use Rattle.plan.specs.Ahead.{mostAhead, rowBits, turned, codesAt, reachAt, rowAt}
 use Rattle.plan.specs.Work.{Kept, Sized, Ready}
-use Rattle.plan.proofs.Ranks.{codes-end, reach-end, bytes-end, bytes-step, codes-turn, reach-turn, fits}
+use Rattle.plan.proofs.Ranks.{codes-end, reach-end, codes-turn, reach-turn, Fits, fits}
 
 -- ---- what is kept
 
@@ -34,25 +34,15 @@ kept-set {n} {before} {after} k i v h = record {
 pub kept-trans : {n : ℕ} {one two three : List ℕ} → Kept n one two → Kept n two three → Kept n one three
 kept-trans j k = record { same = k .same ∙ j .same; rest = k .rest ∙ j .rest }
 
--- ---- the two words of a rank
+-- ---- the numbers ahead: of no rank, and from a later rank on
 
-module _ (work : List ℕ) (i a b : ℕ) where
-  abbrev bothSet : List ℕ
-  bothSet = set (set work (2 * i) a) (2 * i + 1) b
-
-  length-both : length bothSet ≡ length work
-  length-both = length-set (set work (2 * i) a) (2 * i + 1) b ∙ length-set work (2 * i) a
-
-  getD-both-first : 2 * i < length work → getD bothSet (2 * i) 0 ≡ a
-  getD-both-first h = getD-set-other (set work (2 * i) a) (2 * i + 1) (2 * i) b 0 (λ q. omega arith) ∙ getD-set-same work (2 * i) a 0 h
-
-  getD-both-second : 2 * i + 1 < length work → getD bothSet (2 * i + 1) 0 ≡ b
-  getD-both-second h = getD-set-same (set work (2 * i) a) (2 * i + 1) b 0 (omega (arith, length-set work (2 * i) a))
-
-  getD-both-other : (p : ℕ) → (p ≡ 2 * i → ⊥) → (p ≡ 2 * i + 1 → ⊥) → getD bothSet p 0 ≡ getD work p 0
-  getD-both-other p h g = getD-set-other (set work (2 * i) a) (2 * i + 1) p b 0 g ∙ getD-set-other work (2 * i) p a 0 h
-
--- ---- the numbers ahead from a later rank on
+pub ready-none : {xs work : List ℕ} {i : ℕ} → Listed xs → workFor (length xs) ≤ length work → length xs ≤ i → Ready xs work i
+ready-none l room e = record {
+  listed = l;
+  room = room;
+  reach = λ u h g. absurd (omega arith);
+  codes = λ u h g. absurd (omega arith);
+}
 
 pub ready-on : {xs work : List ℕ} {i : ℕ} → Ready xs work i → (j : ℕ) → i ≤ j → Ready xs work j
 ready-on r j h = record {
@@ -64,27 +54,29 @@ ready-on r j h = record {
 
 -- ---- sizes: the codes of the ranks below `i` are sized
 
-pub record Sizing (xs work₀ work : List ℕ) (from i : ℕ) : Type 0 where
+pub record Sizing (xs work₀ work : List ℕ) (i : ℕ) : Type 0 where
   pub within : i ≤ length xs
-  pub start : from ≡ past xs i
   pub sized : Sized xs work i
   pub kept : Kept (length xs) work₀ work
 
-pub sizing-start : (xs work : List ℕ) → Sizing xs work work 0 0
-sizing-start xs work = record { within = omega arith; start = refl; sized = λ u h. absurd (omega arith); kept = kept-none }
+pub sizing-start : (xs work : List ℕ) → Sizing xs work work 0
+sizing-start xs work = record { within = omega arith; sized = λ u h. absurd (omega arith); kept = kept-none }
 
-pub sizing-turn : {xs work₀ work : List ℕ} {from i g : ℕ} → Sizing xs work₀ work from i → i < length xs → workFor (length xs) ≤ length work
-    → g ≡ codeSize (getD xs i 0 - from)
-    → Sizing xs work₀ (set work (2 * i + 1) g) (getD xs i 0 + 1) (i + 1)
-sizing-turn {xs} {work₀} {work} {from} {i} {g} s h room e = record {
+pub sizing-turn : {xs work₀ work : List ℕ} {i p x g : ℕ} → Sizing xs work₀ work i → i < length xs → workFor (length xs) ≤ length work
+    → p ≡ length xs + i → x ≡ getD xs i 0 - past xs i → g ≡ codeSize x
+    → Sizing xs work₀ (set work p g) (i + 1)
+sizing-turn {xs} {work₀} {work} {i} {p} {x} {g} s h room ep ex eg = record {
   within = omega arith;
-  start = omega (arith, past-next xs i);
   sized =
-      below-more (λ u. getD (set work (2 * i + 1) g) (2 * u + 1) 0 ≡ codeSize (getD xs u 0 - past xs u)) i
-      (λ u k. getD-set-other work (2 * i + 1) (2 * u + 1) g 0 (λ q. omega arith) ∙ s .sized u k)
-      (getD-set-same work (2 * i + 1) g 0 (omega arith) ∙ e ∙ ap (λ (o : ℕ). codeSize (getD xs i 0 - o)) (s .start));
-  kept = kept-set (s .kept) (2 * i + 1) g (omega arith);
+      below-more (λ u. getD (set work p g) (length xs + u) 0 ≡ codeSize (getD xs u 0 - past xs u)) i
+      (λ u k. getD-set-other work p (length xs + u) g 0 (λ q. omega arith) ∙ s .sized u k)
+      (ap (λ (q : ℕ). getD (set work p g) q 0) (sym ep) ∙ getD-set-same work p g 0 (omega arith) ∙ eg ∙ ap codeSize ex);
+  kept = kept-set (s .kept) p g (omega arith);
 }
+
+-- the pass may as well begin here
+pub sizing-from : {xs work₀ work : List ℕ} {i : ℕ} → Sizing xs work₀ work i → Sizing xs work work i
+sizing-from s = record { within = s .within; sized = s .sized; kept = kept-none }
 
 -- the size of a code fits
 pub sized-fits : {g : ℕ} (x : ℕ) → g ≡ codeSize x → g ≤ 4
@@ -92,148 +84,119 @@ sized-fits x e = omega (arith, size-most x)
 
 -- ---- values: the numbers ahead of the ranks from `i` on stand in the work area, and below `i` the sizes
 
--- one step more, number by number
-pub turned-is : (g o p : ℕ) (t : Turn) {rest reach row : ℕ} → reach ≡ min (t .reach) (byteBits * t .codes + (p + byteBits * entrySize))
-    → rest ≡ min (t .codes) (t .row)
-    → row ≡ rowSize (reach - o + byteBits * entrySize)
-    → record { codes = g + rest; row = row; reach = reach } ≡ turned g o p t
-turned-is g o p t {rest} {reach} {row} er es ew =
-    let r : reach ≡ min (t .reach) (byteBits * (entrySize + t .codes) + p) = omega (arith, er) in
-    let w : row ≡ entrySize + rowSize (reach - o) = omega (arith, ew) in
-    rw (w, es, r)
-
-pub record Valuing (xs work₀ work : List ℕ) (i next : ℕ) (turn : Turn) : Type 0 where
+pub record Valuing (xs work₀ work : List ℕ) (i : ℕ) (turn : Turn) : Type 0 where
   pub within : i ≤ length xs
-  pub end : next ≡ past xs i
-  pub codes : turn .codes ≡ codesAt xs i
-  pub row : turn .row ≡ entrySize + rowAt xs i
-  pub reach : turn .reach ≡ reachAt xs i
+  pub rest : turn .rest ≡ min (codesAt xs i) (entrySize + rowAt xs i)
+  pub reach : turn .reach ≡ min (reachAt xs i) (byteBits * (entrySize + codesAt xs i) + past xs i) + rowBits
   pub sized : Sized xs work i
   pub ready : Ready xs work i
   pub kept : Kept (length xs) work₀ work
 
-pub valuing-start : {xs work : List ℕ} {next : ℕ} → Listed xs → workFor (length xs) ≤ length work → Sized xs work (length xs)
-    → next ≡ past xs (length xs)
-    → Valuing xs work work (length xs) next (record { codes = 0; row = entrySize; reach = next })
-valuing-start {xs} l room s e = record {
-  within = omega arith;
-  end = e;
-  codes = sym (codes-end xs);
-  row = omega (arith, reach-end xs);
-  reach = e ∙ sym (reach-end xs);
-  sized = s;
-  ready = record { listed = l; room = room; reach = λ u h g. absurd (omega arith); codes = λ u h g. absurd (omega arith) };
-  kept = kept-none;
-}
+pub valuing-start : {xs work : List ℕ} {r : ℕ} (i : ℕ) → Listed xs → workFor (length xs) ≤ length work → Sized xs work (length xs)
+    → length xs ≡ i + 1 → r ≡ getD xs i 0 + (1 + rowBits)
+    → Valuing xs work work (i + 1) (record { rest = 0; reach = r })
+valuing-start {xs} {work} {r} i l room s e er =
+    subst (λ (k : ℕ). Valuing xs work work k (record { rest = 0; reach = r })) e
+    (record {
+      within = omega arith;
+      rest = omega (arith, codes-end xs);
+      reach = omega (arith, er, past-next xs i, ap (past xs) e, codes-end xs, reach-end xs);
+      sized = s;
+      ready = ready-none l room (omega arith);
+      kept = kept-none;
+    })
 
-pub valuing-turn : {xs work₀ work : List ℕ} {j next from : ℕ} {turn new : Turn} (i : ℕ) → Valuing xs work₀ work j next turn → i + 1 ≡ j
-    → from ≡ past xs i → new ≡ turned (getD work (2 * i + 1) 0) from next turn
-    → Valuing xs work₀ (set (set work (2 * i) (new .reach)) (2 * i + 1) (new .codes)) i from new
-valuing-turn {xs} {work₀} {work} {j} {next} {from} {turn} {new} i v ei ef en = record {
-  within = omega (arith, v .within);
-  end = ef;
-  codes = codes;
-  row = row;
-  reach = reach;
-  sized = λ u h. other (2 * u + 1) (λ q. omega arith) (λ q. omega arith) ∙ v .sized u (omega arith);
-  ready = record {
-    listed = v .ready .listed;
-    room = omega (arith, v .ready .room, length-both work i (new .reach) (new .codes));
-    reach = λ u h g.
-        by-lt i u (λ k. other (2 * u) (λ q. omega arith) (λ q. omega arith) ∙ v .ready .reach u (omega arith) g)
-        (λ k.
-        let e : i ≡ u = omega arith in
-        rw (← e) (getD-both-first work i (new .reach) (new .codes) (omega arith) ∙ reach));
-    codes = λ u h g.
-        by-lt i u (λ k. other (2 * u + 1) (λ q. omega arith) (λ q. omega arith) ∙ v .ready .codes u (omega arith) g)
-        (λ k.
-        let e : i ≡ u = omega arith in
-        rw (← e) (getD-both-second work i (new .reach) (new .codes) room ∙ codes));
-  };
-  kept =
-      kept-set (kept-set (v .kept) (2 * i) (new .reach) (omega (arith, v .within))) (2 * i + 1) (new .codes)
-      (omega (arith, v .within));
-}
-  where
-    room : 2 * i + 1 < length work
-    room = omega (arith, v .ready .room, v .within)
+-- the rank before those that are done: its numbers, as the planner works them out, are those ahead of it, and all fit
+module _ {xs work₀ work : List ℕ} {j : ℕ} {turn : Turn} (i : ℕ) (v : Valuing xs work₀ work j turn) (ei : i + 1 ≡ j) where
+  rest-next : turn .rest ≡ min (codesAt xs (i + 1)) (entrySize + rowAt xs (i + 1))
+  rest-next = v .rest ∙ ap (λ (k : ℕ). min (codesAt xs k) (entrySize + rowAt xs k)) (sym ei)
 
-    other : (p : ℕ) → (p ≡ 2 * i → ⊥) → (p ≡ 2 * i + 1 → ⊥)
-        → getD (set (set work (2 * i) (new .reach)) (2 * i + 1) (new .codes)) p 0 ≡ getD work p 0
-    other = getD-both-other work i (new .reach) (new .codes)
+  turn-codes : getD work (length xs + i) 0 + turn .rest ≡ codesAt xs i
+  turn-codes = omega (arith, rest-next, v .sized i (omega arith), codes-turn (v .ready .listed) i (omega (arith, v .within)))
 
-    -- the numbers of the rank after this one
-    codes-next : turn .codes ≡ codesAt xs (i + 1)
-    codes-next = v .codes ∙ ap (codesAt xs) (sym ei)
-
-    row-next : turn .row ≡ entrySize + rowAt xs (i + 1)
-    row-next = v .row ∙ ap (λ (k : ℕ). entrySize + rowAt xs k) (sym ei)
-
-    reach-next : turn .reach ≡ reachAt xs (i + 1)
-    reach-next = v .reach ∙ ap (reachAt xs) (sym ei)
-
-    next-is : next ≡ past xs (i + 1)
-    next-is = v .end ∙ ap (past xs) (sym ei)
-
-    codes : new .codes ≡ codesAt xs i
-    codes =
-        omega (
-          arith,
-          ap (λ (t : Turn). t .codes) en,
-          codes-turn (v .ready .listed) i (omega (arith, v .within)),
-          v .sized i (omega arith),
-          codes-next,
-          row-next,
-        )
-
-    reach : new .reach ≡ reachAt xs i
-    reach =
-        omega (
-          arith,
-          ap (λ (t : Turn). t .reach) en,
-          reach-turn (v .ready .listed) i (omega (arith, v .within)),
-          codes-next,
-          reach-next,
-          next-is,
-        )
-
-    row : new .row ≡ entrySize + rowAt xs i
-    row =
-        ap (λ (t : Turn). t .row) en
-        ∙ ap (λ (r : ℕ). entrySize + rowSize (r - from)) (sym (ap (λ (t : Turn). t .reach) en) ∙ reach)
-        ∙ ap (λ (o : ℕ). entrySize + rowSize (reachAt xs i - o)) ef
-
--- what `grow` asks
-pub valuing-fits : {xs work₀ work : List ℕ} {j next from : ℕ} {turn : Turn} (i : ℕ) → Valuing xs work₀ work j next turn → i + 1 ≡ j
-    → from ≡ past xs i
-    → ((from ≤ next) × (from ≤ turn .reach))
-    × ((getD work (2 * i + 1) 0 ≤ mostAhead) × (next ≤ mostAhead) × (turn .reach ≤ mostAhead) × (turn .codes ≤ mostAhead))
-valuing-fits {xs} {j = j} i v ei ef =
-    let f = fits (v .ready .listed) j (v .within) in
-    let l : past xs i ≤ past xs j = past-le xs i j (omega arith) (v .within) (v .ready .listed .rising) in (
-      (omega (arith, v .end), omega (arith, f .from, v .reach)),
-      (
-        omega (arith, sized-fits _ (v .sized i (omega arith))),
-        omega (arith, v .end, f .start),
-        omega (arith, f .reach, v .reach),
-        omega (arith, f .codes, v .codes),
-      ),
-    )
-
--- the fewest bytes, where there is a step and where there is none
-module _ {xs work₀ work : List ℕ} {i next : ℕ} {turn : Turn} (v : Valuing xs work₀ work i next turn) (e : i ≡ 0) where
-  pub valuing-end : {b : ℕ} → b ≡ bytesAt xs 0 → (b ≡ bytesAt xs 0) × Kept (length xs) work₀ work × Ready xs work 0
-  valuing-end q = (q, v .kept, subst (Ready xs work) e (v .ready))
-
-  pub valuing-none : length xs ≡ 0 → 0 ≡ bytesAt xs 0
-  valuing-none z = sym (ap (bytesAt xs) (sym z) ∙ bytes-end xs)
-
-  pub valuing-some : (length xs ≡ 0 → ⊥) → min (entrySize + turn .codes) (turn .row) ≡ bytesAt xs 0
-  valuing-some z =
+  turn-reach : turn .reach ≡ reachAt xs i + rowBits
+  turn-reach =
       omega (
         arith,
-        z,
-        v .codes ∙ ap (codesAt xs) e,
-        v .row ∙ ap (λ (k : ℕ). entrySize + rowAt xs k) e,
-        bytes-step xs 0 (omega (arith, z)),
+        v .reach ∙ ap (λ (k : ℕ). min (reachAt xs k) (byteBits * (entrySize + codesAt xs k) + past xs k) + rowBits) (sym ei),
+        reach-turn (v .ready .listed) i (omega (arith, v .within)),
       )
+
+  fits-here : Fits xs i
+  fits-here = fits (v .ready .listed) i (omega (arith, v .within))
+
+  pub turn-fits : (getD work (length xs + i) 0 ≤ mostAhead) × (turn .rest ≤ mostAhead)
+  turn-fits = (omega (arith, turn-codes, fits-here .codes), omega (arith, turn-codes, fits-here .codes))
+
+  -- they are stored
+  module _ {after : List ℕ} {reach codes : ℕ} (er : reach ≡ turn .reach - rowBits) (ec : codes ≡ getD work (length xs + i) 0 + turn .rest)
+      (ea : after ≡ set (set work i reach) (length xs + i) codes) where
+    other : (p : ℕ) → (p ≡ i → ⊥) → (p ≡ length xs + i → ⊥) → getD after p 0 ≡ getD work p 0
+    other p h g =
+        ap (λ (w : List ℕ). getD w p 0) ea
+        ∙ getD-set-other (set work i reach) (length xs + i) p codes 0 g
+        ∙ getD-set-other work i p reach 0 h
+
+    room : length xs + i < length work
+    room = omega (arith, v .ready .room, v .within)
+
+    reach-here : getD after i 0 ≡ reachAt xs i
+    reach-here =
+        ap (λ (w : List ℕ). getD w i 0) ea
+        ∙ getD-set-other (set work i reach) (length xs + i) i codes 0 (λ q. omega (arith, v .within))
+        ∙ getD-set-same work i reach 0 (omega (arith, room))
+        ∙ omega (arith, er, turn-reach)
+
+    codes-here : getD after (length xs + i) 0 ≡ codesAt xs i
+    codes-here =
+        ap (λ (w : List ℕ). getD w (length xs + i) 0) ea
+        ∙ getD-set-same (set work i reach) (length xs + i) codes 0 (omega (arith, room, length-set work i reach))
+        ∙ ec
+        ∙ turn-codes
+
+    pub turn-ready : Ready xs after i
+    turn-ready = record {
+      listed = v .ready .listed;
+      room =
+          omega (
+            arith,
+            v .ready .room,
+            ap length ea ∙ length-set (set work i reach) (length xs + i) codes ∙ length-set work i reach,
+          );
+      reach = λ u h g.
+          by-lt i u (λ k. other u (λ q. omega arith) (λ q. omega arith) ∙ v .ready .reach u (omega arith) g)
+          (λ k.
+          let e : i ≡ u = omega arith in
+          rw (← e) reach-here);
+      codes = λ u h g.
+          by-lt i u (λ k. other (length xs + u) (λ q. omega arith) (λ q. omega arith) ∙ v .ready .codes u (omega arith) g)
+          (λ k.
+          let e : i ≡ u = omega arith in
+          rw (← e) codes-here);
+    }
+
+    pub turn-kept : Kept (length xs) work₀ after
+    turn-kept =
+        subst (Kept (length xs) work₀) (sym ea)
+        (kept-set (kept-set (v .kept) i reach (omega (arith, v .within))) (length xs + i) codes (omega (arith, v .within)))
+
+    -- and lead to those of the rank before
+    module _ {from : ℕ} (ef : from ≡ past xs i) where
+      pub grow-fits : (from ≤ turn .reach) × (codes ≤ mostAhead) × (from ≤ mostAhead)
+      grow-fits = (
+        omega (arith, ef, turn-reach, fits-here .from),
+        omega (arith, ec, turn-codes, fits-here .codes),
+        omega (arith, ef, fits-here .start),
+      )
+
+      pub valuing-turn : {new : Turn} (k : ℕ) → i ≡ k → new ≡ turned codes from turn → Valuing xs work₀ after k new
+      valuing-turn {new} k ek en =
+          subst (λ (u : ℕ). Valuing xs work₀ after u new) ek
+          (record {
+            within = omega (arith, v .within);
+            rest = ap (λ (t : Turn). t .rest) en ∙ omega (arith, ec, ef, turn-codes, turn-reach, fits-here .from);
+            reach = ap (λ (t : Turn). t .reach) en ∙ omega (arith, ec, ef, turn-codes, turn-reach);
+            sized = λ u h. other (length xs + u) (λ q. omega arith) (λ q. omega arith) ∙ v .sized u (omega arith);
+            ready = turn-ready;
+            kept = turn-kept;
+          })

@@ -18,6 +18,7 @@ use Rattle.code.specs.Code.{codeSize}
 use Rattle.code.specs.Code.Laws.{size-most}
 use Rattle.row.specs.Row.{byteBits, rowSize}
 use Rattle.plan.specs.Ahead.{mostAhead, Ahead, grown, aheadOf, aheadAt, bytesAt, codesAt, reachAt, rowAt}
+use Rattle.plan.specs.Work.{GoesOn}
 use Rattle.plan.proofs.Costs.{codesTo, codes-one}
 use Rattle.plan.proofs.Scans.{upward}
 
@@ -85,6 +86,14 @@ module _ (xs : List ℕ) where
         ap (λ (a : Ahead). a .codes) (ahead-step i h),
         ap (λ (a : Ahead). rowSize (a .reach - past xs i)) (ahead-step i h),
       )
+
+  -- whether a block of codes goes on at a rank, by the fewest bytes of codes and of a row from there on
+  module _ (i : ℕ) (h : i < length xs) {c r : ℕ} (ec : c ≡ codesAt xs i) (er : r ≡ entrySize + rowAt xs i) where
+    pub goes-on : c ≤ r → GoesOn xs i
+    goes-on g = omega (arith, ec, er, bytes-step i h)
+
+    pub goes-not : r < c → GoesOn xs i → ⊥
+    goes-not g o = omega (arith, ec, er, bytes-step i h)
 
   pub codes-end : codesAt xs (length xs) ≡ 0
   codes-end = ap (λ (a : Ahead). a .codes) ahead-end

@@ -2,7 +2,7 @@
 -- Assumes nothing.
 use mathlib.Core.Path.{_≡_, refl}
 use mathlib.Core.List.{List, [], _∷_}
-use Prim.Native.Nat.{ℕ, _*_, _/_, _%_, _^_, _≤_, _<_}
+use Prim.Native.Nat.{ℕ, _/_, _%_, _^_, _≤_, _<_}
 use native.Mathlib.Omega.{arith}
 use lib.ListN.{length, getD}
 use Rattle.rules.specs.Limits.Laws.{most-counted}
@@ -32,13 +32,13 @@ word-number b = omega (arith, number-le (b .kind))
 pub word-fits : (b : Block) → b .upto ≤ mostSteps → wordOf b < 2 ^ 32
 word-fits b h = omega (arith, most-counted, number-le (b .kind))
 
--- ---- block by block: what is left after the first block of the cut `bs` from rank `i` up to rank `n`, which the word at `2 * i` says
+-- ---- block by block: what is left after the first block of the cut `bs` from rank `i` up to rank `n`, which the word at `i` says
 
 pub record Head (work : List ℕ) (i n : ℕ) (bs : List Block) : Type 0 where
   pub first : Block
   pub rest : List Block
   pub is : bs ≡ first ∷ rest
-  pub word : getD work (2 * i) 0 ≡ wordOf first
+  pub word : getD work i 0 ≡ wordOf first
   pub after : i < first .upto
   pub within : first .upto ≤ n
   pub cuts : Cuts (first .upto) n rest

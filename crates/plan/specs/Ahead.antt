@@ -1,6 +1,6 @@
 -- The numbers that the planner goes by. They are no promise: laws tie them to the best cut.
 use mathlib.Core.List.{List, [], _∷_}
-use Prim.Native.Nat.{ℕ, suc, _+_, _-_, _*_, _^_, min}
+use Prim.Native.Nat.{ℕ, suc, _+_, _-_, _*_, _/_, _^_, min}
 use lib.ListN.{drop}
 use Rattle.lists.specs.Rising.{past}
 use Rattle.rules.specs.Sizes.{entrySize}
@@ -50,9 +50,17 @@ reachAt xs i = aheadAt xs i .reach
 abbrev pub rowAt : List ℕ → ℕ → ℕ
 rowAt xs i = rowSize (reachAt xs i - past xs i)
 
--- A turn of the planner. It goes without the fewest bytes of all: codes that end where other codes begin are not fewer than one block of them,
--- and a row reaches no less than where it ends.
-abbrev pub turned : ℕ → ℕ → ℕ → Turn → Turn
-turned g o p t =
-    let reach = min (t .reach) (byteBits * (entrySize + t .codes) + p) in
-    record { codes = g + min (t .codes) (t .row); row = entrySize + rowSize (reach - o); reach = reach }
+-- the bits of an entry, and those that a row adds to its span before its bits are counted in bytes
+abbrev pub entryBits : ℕ
+entryBits = byteBits * entrySize
+
+abbrev pub rowBits : ℕ
+rowBits = entryBits + (byteBits - 1)
+
+-- A turn of the planner, at a step that is `o` at the least. It goes without the fewest bytes of all: codes that end where other codes begin are
+-- not fewer than one block of them, and a row reaches no less than where it ends.
+abbrev pub turned : ℕ → ℕ → Turn → Turn
+turned c o t = record {
+  rest = min c ((t .reach - o) / byteBits);
+  reach = min (t .reach) (byteBits * c + (o + (entryBits + rowBits)));
+}

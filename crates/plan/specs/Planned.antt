@@ -17,10 +17,10 @@ cutOf xs = bestCut (cost xs) (length xs) 0
 abbrev pub wordOf : Block → ℕ
 wordOf b = 2 * b .upto + number (b .kind)
 
--- the words of a cut's blocks stand in the work area, each at twice the rank where its block begins
+-- the words of a cut's blocks stand in the work area, each at the rank where its block begins
 abbrev pub Marked : List ℕ → ℕ → List Block → Type 0
 Marked work i [] = Unit {0}
-Marked work i (b ∷ bs) = (getD work (2 * i) 0 ≡ wordOf b) × Marked work (b .upto) bs
+Marked work i (b ∷ bs) = (getD work i 0 ≡ wordOf b) × Marked work (b .upto) bs
 
 -- the plan of the list `xs`, and the work area before and after
 pub record Planned (xs before after : List ℕ) (r : Totals) : Type 0 where

@@ -1,4 +1,4 @@
--- What stands in the work area between the planner's passes: two words for each rank.
+-- What stands in the work area between the planner's passes: two words for each rank `u`, at `u` and at `length xs + u`.
 use mathlib.Core.Path.{_≡_}
 use mathlib.Core.List.{List, _∷_}
 use Prim.Native.Nat.{ℕ, _+_, _-_, _*_, _<_, _≤_}
@@ -21,14 +21,14 @@ pub record Kept (n : ℕ) (before after : List ℕ) : Type 0 where
 
 -- the size of each step's code, for the ranks below `i`
 abbrev pub Sized : List ℕ → List ℕ → ℕ → Type 0
-Sized xs work i = (u : ℕ) → u < i → getD work (2 * u + 1) 0 ≡ codeSize (getD xs u 0 - past xs u)
+Sized xs work i = (u : ℕ) → u < i → getD work (length xs + u) 0 ≡ codeSize (getD xs u 0 - past xs u)
 
 -- the numbers ahead, for the ranks from `i` on
 pub record Ready (xs work : List ℕ) (i : ℕ) : Type 0 where
   pub listed : Listed xs
   pub room : workFor (length xs) ≤ length work
-  pub reach : (u : ℕ) → i ≤ u → u < length xs → getD work (2 * u) 0 ≡ reachAt xs u
-  pub codes : (u : ℕ) → i ≤ u → u < length xs → getD work (2 * u + 1) 0 ≡ codesAt xs u
+  pub reach : (u : ℕ) → i ≤ u → u < length xs → getD work u 0 ≡ reachAt xs u
+  pub codes : (u : ℕ) → i ≤ u → u < length xs → getD work (length xs + u) 0 ≡ codesAt xs u
 
 -- a scan that goes up from the rank after `i` has come to `j`
 pub record Scanning (On : ℕ → Type 0) (n i j : ℕ) : Type 0 where
@@ -43,9 +43,21 @@ pub record Stops (On : ℕ → Type 0) (n i r : ℕ) : Type 0 where
   pub passed : (j : ℕ) → i < j → j < r → On j
   pub stopped : r < n → On r → ⊥
 
--- where a first block of codes from rank `i` on goes on as the best one from a later rank on does, up to its largest end
+-- the ranks that a look passes at once
+abbrev pub stride : ℕ
+stride = 16
+
+-- a block of codes that comes to rank `j` goes on as the best one from there on does
+abbrev pub GoesOn : List ℕ → ℕ → Type 0
+GoesOn xs j = codesAt xs j ≤ bytesAt xs j
+
+-- it does so at all ranks from `i` up to `r`
+abbrev pub AllGoOn : List ℕ → ℕ → ℕ → Type 0
+AllGoOn xs i r = (u : ℕ) → u < r → i ≤ u → GoesOn xs u
+
+-- the largest end of a first block of codes from rank `i` on
 abbrev pub CodesEnd : List ℕ → ℕ → ℕ → Type 0
-CodesEnd xs i r = Stops (λ (j : ℕ). codesAt xs j ≤ bytesAt xs j) (length xs) i r
+CodesEnd xs i r = Stops (GoesOn xs) (length xs) i r
 
 -- where `b` bytes, those of a row from rank `i` on and of all the blocks after it, still reach what lies ahead
 abbrev pub RowEnd : List ℕ → ℕ → ℕ → ℕ → Type 0

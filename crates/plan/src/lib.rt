@@ -6,16 +6,17 @@
 // itself is the lesser of the two blocks that they give. Which end the tie rule wants is asked only at the blocks that are written, going forward.
 
 ghost use mathlib.Core.Path.{_≡_};
+ghost use mathlib.Core.Bool.{false};
 ghost use Prim.Native.Nat.{_+_, _*_, _<_, _≤_, min};
-ghost use lib.ListN.{length};
+ghost use lib.ListN.{length, getD, set};
 ghost use Rattle.lists.specs.Rising.{past};
 ghost use Rattle.rules.specs.Limits.{mostSteps};
-ghost use Rattle.rules.specs.Sizes.{workFor};
+ghost use Rattle.rules.specs.Sizes.{entrySize, workFor};
 ghost use Rattle.rules.specs.Listed.{Listed};
 ghost use Rattle.row.specs.Row.{rowSize};
 ghost use Rattle.plan.specs.Ahead.{mostAhead, turned, bytesAt, rowAt};
 ghost use Rattle.plan.specs.Planned.{Planned, Marked, cutOf};
-ghost use Rattle.plan.specs.Work.{Kept, Sized, Ready, CodesEnd, RowEnd, Chosen, Covered};
+ghost use Rattle.plan.specs.Work.{Kept, Sized, Ready, stride, Scanning, GoesOn, AllGoOn, CodesEnd, RowEnd, Chosen, Covered};
 
 const BYTE_BITS: u32 = 8;
 
@@ -24,7 +25,10 @@ const ENTRY_SIZE: u32 = rules::ENTRY_SIZE as u32;
 // The bits of an entry's bytes.
 const ENTRY_BITS: u32 = BYTE_BITS * ENTRY_SIZE;
 
-// The ranks that a look for the end of a row passes at once.
+// What a row adds to its span before the bits are counted in bytes: its entry, and the most that pads it.
+const ROW_BITS: u32 = ENTRY_BITS + (BYTE_BITS - 1);
+
+// The ranks that a look for the end of a block passes at once.
 const STRIDE: usize = 16;
 
 // The kinds of a block.
@@ -38,11 +42,10 @@ pub struct Totals {
     pub bytes: usize,
 }
 
-// Of the steps from rank i on: the least C(i, j) + F_j, which is a first block of codes with all that follows, its entry aside; the same of a
-// row, with its entry; and the least Y_j.
+// What a turn needs of the ranks after its own: the fewest bytes of what follows the code of its step in a block of codes; and the least Y_j,
+// with the bits that a row adds.
 struct Turn {
-    codes: u32,
-    row: u32,
+    rest: u32,
     reach: u32,
 }
 
@@ -69,63 +72,71 @@ fn row_size(span: u32) -> u32
     (span + (BYTE_BITS - 1)) / BYTE_BITS
 }
 
-// The numbers with one step more in front: its code has `size` bytes, it is `from` at the least, and one past it is `next`. What each needs of
-// the others is little, so that a turn waits for the one before it as short as can be.
-fn grow(turn: Turn, size: u32, from: u32, next: u32) -> Turn
-    requires { ⌜ (from ≤ next) × (from ≤ turn .reach) ⌝ }
-    requires { ⌜ (size ≤ mostAhead) × (next ≤ mostAhead) × (turn .reach ≤ mostAhead) × (turn .codes ≤ mostAhead) ⌝ }
-    ensures { λ r. ⌜ r ≡ turned size from next turn ⌝ }
+// The next turn's numbers after that of a rank whose step is `from` at the least and which has `codes`, the least C(i, j) + F_j. What each
+// needs of the others is little, so that a turn waits for the one before it as short as can be.
+fn grow(turn: Turn, codes: u32, from: u32) -> Turn
+    requires { ⌜ (from ≤ turn .reach) × (codes ≤ mostAhead) × (from ≤ mostAhead) ⌝ }
+    ensures { λ r. ⌜ r ≡ turned codes from turn ⌝ }
 {
-    let reach = smaller(turn.reach, BYTE_BITS * turn.codes + (next + ENTRY_BITS));
     Turn {
-        codes: size + smaller(turn.codes, turn.row),
-        row: row_size(reach - from + ENTRY_BITS),
-        reach,
+        rest: smaller(codes, (turn.reach - from) / BYTE_BITS),
+        reach: smaller(
+            turn.reach,
+            BYTE_BITS * codes + (from + (ENTRY_BITS + ROW_BITS)),
+        ),
     }
 }
 
-// Stores the size of each step's code in the work area: at 2·i + 1 for rank i.
+// Stores the size of each step's code in the work area: at n + i for rank i of n. No turn waits for another, so that several are stored at once.
 fn sizes(list: &[u32], work: &mut [u32])
     requires { ⌜ Listed (now list) × (workFor (length (now list)) ≤ length (now work)) ⌝ }
     ensures { λ _. ⌜ Kept (length (now (list .entry))) (now (work .entry)) (now (work .exit))
         × Sized (now (list .entry)) (now (work .exit)) (length (now (list .entry))) ⌝ }
 {
-    let mut from: u32 = 0;
-    let mut i: usize = 0;
-    while i < list.len() {
-        let step = list[i];
-        work[2 * i + 1] = code::size(step - from) as u32;
-        from = step + 1;
+    let n = list.len();
+    if n == 0 {
+        return;
+    }
+    work[n] = code::size(list[0]) as u32;
+    let mut i: usize = 1;
+    while i < n {
+        let from = list[i - 1] + 1;
+        work[n + i] = code::size(list[i] - from) as u32;
         i += 1;
     }
 }
 
-// Going back from the end, stores at 2·i the least Y_j and at 2·i + 1 the least C(i, j) + F_j, over all j above i; gives F_0.
-fn values(list: &[u32], work: &mut [u32]) -> u32
-    requires { ⌜ Listed (now list) × (workFor (length (now list)) ≤ length (now work)) × Sized (now list) (now work) (length (now list)) ⌝ }
-    ensures { λ r. ⌜ (r ≡ bytesAt (now (list .entry)) 0)
-        × Kept (length (now (list .entry))) (now (work .entry)) (now (work .exit))
-        × Ready (now (list .entry)) (now (work .exit)) 0 ⌝ }
+// Stores the two words of rank i of n: its reach at i, and at n + i, where the size of its code stands, that size with the rest; gives the latter.
+fn keep(work: &mut [u32], n: usize, i: usize, reach: u32, rest: u32) -> u32
+    requires { ⌜ (i < n) × (workFor n ≤ length (now work)) × (n ≤ mostSteps) × (getD (now work) (n + i) 0 ≤ mostAhead) × (rest ≤ mostAhead) ⌝ }
+    ensures { λ r. ⌜ (r ≡ getD (now (work .entry)) (n + i) 0 + rest) × (now (work .exit) ≡ set (set (now (work .entry)) i reach) (n + i) r) ⌝ }
 {
-    let mut i = list.len();
-    let mut next = past_at(list, i);
+    let codes = work[n + i] + rest;
+    work[i] = reach;
+    work[n + i] = codes;
+    codes
+}
+
+// Going back from the end, stores at i the least Y_j and at n + i the least C(i, j) + F_j, over all j above i.
+fn values(list: &[u32], work: &mut [u32])
+    requires { ⌜ Listed (now list) × (workFor (length (now list)) ≤ length (now work)) × Sized (now list) (now work) (length (now list)) ⌝ }
+    ensures { λ _. ⌜ Kept (length (now (list .entry))) (now (work .entry)) (now (work .exit)) × Ready (now (list .entry)) (now (work .exit)) 0 ⌝ }
+{
+    let n = list.len();
+    if n == 0 {
+        return;
+    }
+    let mut i = n - 1;
     let mut turn = Turn {
-        codes: 0,
-        row: ENTRY_SIZE,
-        reach: next,
+        rest: 0,
+        reach: list[i] + (1 + ROW_BITS),
     };
     while 0 < i {
+        let codes = keep(work, n, i, turn.reach - ROW_BITS, turn.rest);
+        turn = grow(turn, codes, list[i - 1] + 1);
         i -= 1;
-        let from = past_at(list, i);
-        turn = grow(turn, work[2 * i + 1], from, next);
-        work[2 * i] = turn.reach;
-        work[2 * i + 1] = turn.codes;
-        next = from;
     }
-    if list.len() == 0 {
-        return 0;
-    }
-    smaller(ENTRY_SIZE + turn.codes, turn.row)
+    keep(work, n, 0, turn.reach - ROW_BITS, turn.rest);
 }
 
 // The fewest bytes of a row from rank i on with all the blocks after it, the row's entry aside.
@@ -133,7 +144,60 @@ fn row_at(list: &[u32], work: &[u32], i: usize) -> u32
     requires { ⌜ Ready (now list) (now work) i × (i < length (now list)) ⌝ }
     ensures { λ r. ⌜ r ≡ rowAt (now (list .entry)) i ⌝ }
 {
-    row_size(work[2 * i] - past_at(list, i))
+    row_size(work[i] - past_at(list, i))
+}
+
+// The fewest bytes of the blocks of a list.
+fn fewest(list: &[u32], work: &[u32]) -> u32
+    requires { ⌜ Ready (now list) (now work) 0 ⌝ }
+    ensures { λ r. ⌜ r ≡ bytesAt (now (list .entry)) 0 ⌝ }
+{
+    let n = list.len();
+    if n == 0 {
+        return 0;
+    }
+    ENTRY_SIZE + smaller(work[n], row_at(list, work, 0))
+}
+
+// The fewest bytes of a row from a rank on that is not the first, with its entry and all the blocks after it.
+fn row_later(list: &[u32], work: &[u32], j: usize) -> u32
+    requires { ⌜ Ready (now list) (now work) j × (0 < j) × (j < length (now list)) ⌝ }
+    ensures { λ r. ⌜ r ≡ entrySize + rowAt (now (list .entry)) j ⌝ }
+{
+    (work[j] - (list[j - 1] + 1) + ROW_BITS) / BYTE_BITS
+}
+
+// Whether a block of codes ends at one of the ranks of a look from rank j on; no turn leaves the loop, so that several ranks are compared at once.
+fn ends_within(list: &[u32], work: &[u32], j: usize) -> bool
+    requires { ⌜ Ready (now list) (now work) j × (0 < j) × (j + stride ≤ length (now list)) ⌝ }
+    ensures { λ r. ⌜ (r ≡ false → AllGoOn (now (list .entry)) j (j + stride)) ⌝ }
+{
+    let n = list.len();
+    let mut any = false;
+    let end = j + STRIDE;
+    let mut k = j;
+    while k < end {
+        if row_later(list, work, k) < work[n + k] {
+            any = true;
+        }
+        k += 1;
+    }
+    any
+}
+
+// A rank after i up to which no block of codes ends.
+fn coded(list: &[u32], work: &[u32], i: usize) -> usize
+    requires { ⌜ Ready (now list) (now work) i × (i < length (now list)) ⌝ }
+    ensures { λ r. ⌜ Scanning (GoesOn (now (list .entry))) (length (now (list .entry))) i r ⌝ }
+{
+    let mut j = i + 1;
+    while j + STRIDE <= list.len() {
+        if ends_within(list, work, j) {
+            return j;
+        }
+        j += STRIDE;
+    }
+    j
 }
 
 // The largest end that a best block of codes from rank i can have.
@@ -141,9 +205,9 @@ fn codes_end(list: &[u32], work: &[u32], i: usize) -> usize
     requires { ⌜ Ready (now list) (now work) i × (i < length (now list)) ⌝ }
     ensures { λ r. ⌜ CodesEnd (now (list .entry)) i r ⌝ }
 {
-    let mut j = i + 1;
+    let mut j = coded(list, work, i);
     while j < list.len() {
-        if ENTRY_SIZE + row_at(list, work, j) < work[2 * j + 1] {
+        if row_later(list, work, j) < work[list.len() + j] {
             return j;
         }
         j += 1;
@@ -158,7 +222,7 @@ fn covered(list: &[u32], work: &[u32], i: usize, top: u32) -> usize
 {
     let mut j = i + 1;
     while j + STRIDE <= list.len() {
-        if top < work[2 * (j + (STRIDE - 1))] {
+        if top < work[j + (STRIDE - 1)] {
             return j;
         }
         j += STRIDE;
@@ -174,7 +238,7 @@ fn row_end(list: &[u32], work: &[u32], i: usize, r: u32) -> usize
     let top = past_at(list, i) + BYTE_BITS * r;
     let mut j = covered(list, work, i, top);
     while j < list.len() {
-        if top < work[2 * j] {
+        if top < work[j] {
             return j;
         }
         j += 1;
@@ -195,7 +259,7 @@ fn choice(list: &[u32], work: &[u32], i: usize) -> u32
     requires { ⌜ Ready (now list) (now work) i × (i < length (now list)) ⌝ }
     ensures { λ r. ⌜ Chosen (now (list .entry)) i r ⌝ }
 {
-    let codes = work[2 * i + 1];
+    let codes = work[list.len() + i];
     let row = row_at(list, work, i);
     if codes < row {
         return word(codes_end(list, work, i), CODES);
@@ -211,7 +275,7 @@ fn choice(list: &[u32], work: &[u32], i: usize) -> u32
     word(other, CODES)
 }
 
-// Going forward, puts the word of each block of the best cut at 2·i, where the block begins at rank i; gives the number of blocks.
+// Going forward, puts the word of each block of the best cut at i, where the block begins at rank i; gives the number of blocks.
 fn marks(list: &[u32], work: &mut [u32]) -> usize
     requires { ⌜ Ready (now list) (now work) 0 ⌝ }
     ensures { λ r. ⌜ (r ≡ length (cutOf (now (list .entry))))
@@ -222,7 +286,7 @@ fn marks(list: &[u32], work: &mut [u32]) -> usize
     let mut i: usize = 0;
     while i < list.len() {
         let word = choice(list, work, i);
-        work[2 * i] = word;
+        work[i] = word;
         i = (word / 2) as usize;
         blocks += 1;
     }
@@ -235,7 +299,8 @@ pub fn plan(list: &[u32], work: &mut [u32]) -> Totals
     ensures { λ r. ⌜ Planned (now (list .entry)) (now (work .entry)) (now (work .exit)) r ⌝ }
 {
     sizes(list, work);
-    let bytes = values(list, work);
+    values(list, work);
+    let bytes = fewest(list, work);
     let blocks = marks(list, work);
     Totals {
         blocks,

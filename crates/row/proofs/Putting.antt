@@ -1,4 +1,5 @@
--- Laws of putting the steps of a row into a buffer: the ones of a word, the lowest first, each of which is then cleared; and word by word.
+-- Laws of putting the steps of a row into a buffer: the ones of a word, the lowest first, each of which is then cleared; all of a word without
+-- a zero; and word by word.
 -- Assumes nothing.
 use mathlib.Core.Path.{_≡_, refl, sym, ap, _∙_, subst}
 use mathlib.Core.List.{List, [], append-nil}
@@ -10,11 +11,12 @@ use lib.ListN.{length, set, take, drop, length-drop, length-append}
 use lib.Seq.{sets}
 use Rattle.lists.specs.Rising.{beyond}
 use Rattle.lists.specs.Bytes.{Bytes}
+use Rattle.lists.proofs.Rising.{rising-length}
 use Rattle.lists.proofs.Stores.{Storing, storing-start, storing-same, storing-room, storing-one, storing-run, storing-end}
 use Rattle.rules.specs.Numbers.{little}
 use Rattle.row.specs.Row.{byteBits, bitsFrom, rowSteps}
 use Rattle.row.specs.Words.{wordBytes, wordBits}
-use Rattle.row.proofs.Bits.{bits-zero, bits-lowest, lowest-below, beyond-rest-bits, beyond-bits}
+use Rattle.row.proofs.Bits.{bits-zero, bits-lowest, lowest-below, rising-bits, beyond-rest-bits, beyond-bits, length-full}
 use Rattle.row.proofs.Row.{rowLeft, row-start, beyond-row-most}
 use Rattle.row.proofs.Words.{row-word, row-rest}
 
@@ -49,6 +51,20 @@ module _ {word o : ℕ} {out₀ : List ℕ} {at : ℕ} {out : List ℕ} {bits k 
     ends = beyond-rest-bits wordBits o bits (2 ^ 32) p (c .fits) (c .ends);
     fits = omega (arith, clearing-less p, c .fits);
   }
+
+-- ---- a word without a zero
+
+module _ (word o : ℕ) (out : List ℕ) (at : ℕ) (e : word ≡ 2 ^ wordBits - 1) where
+  pub full-room : beyond o (bitsFrom wordBits o word) ≤ 2 ^ 32 → at + length (bitsFrom wordBits o word) ≤ length out
+      → (o + wordBits ≤ 2 ^ 32) × (at + wordBits ≤ length out)
+  full-room h l =
+      let n : length (bitsFrom wordBits o word) ≡ wordBits = length-full wordBits o word e in
+      (omega (arith, rising-length o (bitsFrom wordBits o word) (rising-bits wordBits o word)), omega arith)
+
+  pub full-stored : {out′ : List ℕ} {k : ℕ} → (k ≡ at + wordBits) × (out′ ≡ sets out at (bitsFrom wordBits o (2 ^ wordBits - 1)))
+      → (k ≡ at + length (bitsFrom wordBits o word)) × (out′ ≡ sets out at (bitsFrom wordBits o word))
+  full-stored r =
+      (r .0 ∙ ap (λ (n : ℕ). at + n) (sym (length-full wordBits o word e)), r .1 ∙ ap (λ (v : ℕ). sets out at (bitsFrom wordBits o v)) (sym e))
 
 -- ---- word by word
 

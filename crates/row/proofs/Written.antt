@@ -41,7 +41,7 @@ bits-of-no : (k o : ℕ) (xs : List ℕ) → has o xs ≡ false → bitsOf (suc 
 unfolding bitsOf
 bits-of-no k o xs e = rw e (omega arith)
 
-pub bits-of-lt : (k o : ℕ) (xs : List ℕ) → bitsOf k o xs < 2 ^ k
+bits-of-lt : (k o : ℕ) (xs : List ℕ) → bitsOf k o xs < 2 ^ k
 bits-of-lt zero o xs = omega (arith, bits-of-zero o xs)
 bits-of-lt (suc k) o xs =
     let q : 2 ^ suc k ≡ 2 * 2 ^ k = pow-succ' 2 k in
@@ -99,14 +99,22 @@ pub bytes-from-none : (o : ℕ) (xs : List ℕ) → bytesFrom 0 o xs ≡ []
 unfolding bytesFrom
 bytes-from-none o xs = refl
 
-pub bytes-from-cons : (k o : ℕ) (xs : List ℕ) → bytesFrom (suc k) o xs ≡ bitsOf byteBits o xs ∷ bytesFrom k (o + byteBits) xs
+bytes-from-cons : (k o : ℕ) (xs : List ℕ) → bytesFrom (suc k) o xs ≡ bitsOf byteBits o xs ∷ bytesFrom k (o + byteBits) xs
 unfolding bytesFrom
 bytes-from-cons k o xs = refl
 
-length-bytes-from : (k o : ℕ) (xs : List ℕ) → length (bytesFrom k o xs) ≡ k
+pub length-bytes-from : (k o : ℕ) (xs : List ℕ) → length (bytesFrom k o xs) ≡ k
 unfolding bytesFrom
 length-bytes-from zero o xs = refl
 length-bytes-from (suc k) o xs = ap suc (length-bytes-from k (o + byteBits) xs)
+
+pub getD-bytes-from : (k o : ℕ) (xs : List ℕ) (j : ℕ) → j < k → getD (bytesFrom k o xs) j 0 ≡ bitsOf byteBits (o + byteBits * j) xs
+unfolding bytesFrom
+getD-bytes-from zero o xs j h = absurd (omega arith)
+getD-bytes-from (suc k) o xs zero h = let z : o ≡ o + byteBits * 0 = omega arith in ap (λ (p : ℕ). bitsOf byteBits p xs) z
+getD-bytes-from (suc k) o xs (suc j) h =
+    let z : o + byteBits + byteBits * j ≡ o + byteBits * suc j = omega arith in
+    getD-bytes-from k (o + byteBits) xs j (omega arith) ∙ ap (λ (p : ℕ). bitsOf byteBits p xs) z
 
 bytes-bytes-from : (k o : ℕ) (xs : List ℕ) → Bytes (bytesFrom k o xs)
 unfolding bytesFrom
@@ -120,6 +128,20 @@ bytes-from-same (suc k) o xs ys f =
     let b : bitsOf byteBits o xs ≡ bitsOf byteBits o ys = bits-of-same byteBits o xs ys (λ z h g. f z h) in
     let r : bytesFrom k (o + byteBits) xs ≡ bytesFrom k (o + byteBits) ys = bytes-from-same k (o + byteBits) xs ys (λ z h. f z (omega arith)) in
     bytes-from-cons k o xs ∙ (cc) ∙ sym (bytes-from-cons k o ys)
+
+-- of no list they are 0, wherever they begin
+bytes-from-nil : (k o p : ℕ) → bytesFrom k o [] ≡ bytesFrom k p []
+bytes-from-nil zero o p = bytes-from-none o [] ∙ sym (bytes-from-none p [])
+bytes-from-nil (suc k) o p =
+    let b : bitsOf byteBits o [] ≡ bitsOf byteBits p [] = bits-of-none byteBits o [] tt ∙ sym (bits-of-none byteBits p [] tt) in
+    let r : bytesFrom k (o + byteBits) [] ≡ bytesFrom k (p + byteBits) [] = bytes-from-nil k (o + byteBits) (p + byteBits) in
+    bytes-from-cons k o [] ∙ (cc) ∙ sym (bytes-from-cons k p [])
+
+pub bytes-from-zeros : (k o : ℕ) → bytesFrom (suc k) o [] ≡ 0 ∷ bytesFrom k o []
+bytes-from-zeros k o =
+    bytes-from-cons k o []
+    ∙ ap (λ (b : ℕ). b ∷ bytesFrom k (o + byteBits) []) (bits-of-none byteBits o [] tt)
+    ∙ ap (λ (l : List ℕ). 0 ∷ l) (bytes-from-nil k (o + byteBits) o)
 
 pub length-row : (o : ℕ) (xs : List ℕ) → length (rowOf o xs) ≡ rowSize (beyond o xs - o)
 unfolding rowOf

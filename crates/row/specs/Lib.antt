@@ -1,2 +1,4 @@
 pub mod Row
 pub mod Words
+pub mod Groups
+pub mod Marks

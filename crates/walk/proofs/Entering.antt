@@ -6,13 +6,16 @@ use Prim.Native.Nat.{ℕ, _+_, _-_, _^_, _≤_, _<_}
 use native.Mathlib.Omega.{arith}
 use native.Mathlib.Numerals.{add-one}
 use lib.ListN.{length}
-use Rattle.lists.specs.Rising.{beyond}
+use Rattle.lists.specs.Rising.{Rising, beyond}
 use Rattle.lists.specs.Parts.{part}
 use Rattle.lists.proofs.Choice.{by-lt}
 use Rattle.lists.proofs.Parts.{length-part}
+use Rattle.lists.proofs.Rising.{rising-append}
 use Rattle.rules.specs.Numbers.{numberAt}
 use Rattle.codes.specs.Codes.{all, listOf, stepsFrom}
+use Rattle.codes.proofs.Codes.{rising-steps}
 use Rattle.row.specs.Row.{rowSize}
+use Rattle.row.proofs.Row.{rising-row}
 use Rattle.image.specs.declared.Entry.{Entry}
 use Rattle.image.specs.declared.Before.{Before}
 use Rattle.image.specs.Entry.{entryPlace, entryAt, afterEntry, beforeAt}
@@ -20,7 +23,7 @@ use Rattle.image.specs.Verdict.{taken, directoryOf, blocksOf}
 use Rattle.image.proofs.Entries.{entries-here, entries-done}
 use Rattle.image.proofs.Directory.{Clean, directory-clean, directory-whole}
 use Rattle.image.proofs.Found.{part-codes, part-row, codes-found, row-found}
-use Rattle.image.proofs.Blocks.{Good, Split, split}
+use Rattle.image.proofs.Blocks.{Good, Split, taken-eq, split}
 use Rattle.image.specs.Taken.{listIn}
 use Rattle.walk.specs.declared.Rest.{Rest}
 use Rattle.walk.specs.Blocks.{entriesFrom, blocksFrom, later, Blocks}
@@ -115,6 +118,11 @@ module _ (pay : List ℕ) (b : Before) (e : Entry) (g : Good b e (part pay (b .e
       let q : Rest = front b e i in
       by-kind pay q (λ k. left-codes pay q k ∙ ap listOf (codes-list k)) (λ k. left-row pay q k ∙ row-list k .1)
 
+  front-rising : Rising (b .next) (g .list)
+  front-rising =
+      by-kind pay (front b e i) (λ k. subst (Rising (b .next)) (ap listOf (codes-list k)) (rising-steps (b .next) (part pay (b .end) (e .end)) 0))
+      (λ k. subst (Rising (b .next)) (row-list k .1) (rising-row (b .next) (part pay (b .end) (e .end))))
+
   front-last : beyond (b .next) (left pay (front b e i)) ≡ e .last + 1
   front-last = ap (beyond (b .next)) front-left ∙ g .last
 
@@ -129,6 +137,20 @@ module _ (pay : List ℕ) (b : Before) (e : Entry) (g : Good b e (part pay (b .e
         tight =
             λ k h. omega (arith, row-list k .0, length-part pay (b .end) (e .end) (omega arith) (c .within), front-last, c .last);
       }
+
+-- ---- the steps of all blocks to come
+
+blocks-rising : (pay : List ℕ) (b : Before) (i : ℕ) (es : List Entry) (xs : List ℕ) → blocksOf pay b i es ≡ taken xs → Rising (b .next) xs
+blocks-rising pay b i [] xs q = subst (Rising (b .next)) (taken-eq q) tt
+blocks-rising pay b i (e ∷ es) xs q =
+    let x : Split pay b i e es xs = split pay b i e es xs q in
+    let g : Good b e (part pay (b .end) (e .end)) = x .first in
+    subst (Rising (b .next)) (x .both)
+    (rising-append (b .next) (g .list) (x .others) (front-rising pay b e g i)
+    (subst (λ (n : ℕ). Rising n (x .others)) (sym (g .last)) (blocks-rising pay (afterEntry e) (i + 1) es (x .others) (x .more))))
+
+pub later-rising : {s pay : List ℕ} {i e : ℕ} → Blocks s pay i e → Rising (beforeAt s i .next) (later s pay i)
+later-rising {s} {pay} {i} b = blocks-rising pay (beforeAt s i) i (entriesFrom s i) (later s pay i) (b .takes)
 
 -- ---- what is left, or the next block
 

@@ -26,7 +26,7 @@ use Rattle.walk.proofs.Shapes.{row-in-none, here-row, left-row, beyond-
 -- ---- one word
 
 module _ (o : ℕ) (pay : List ℕ) (at end v : ℕ) (w : Bytes pay) (e : v ≡ little (take wordBytes (part pay at end))) where
-  row-load : rowIn o pay at end ≡ bitsFrom wordBits o v ++ rowIn (o + wordBits) pay (at + wordBytes) end
+  pub row-load : rowIn o pay at end ≡ bitsFrom wordBits o v ++ rowIn (o + wordBits) pay (at + wordBytes) end
   row-load =
       row-words o (part pay at end) (bytes-part pay at end w)
       ∙ ap (λ (n : ℕ). bitsFrom wordBits o n ++ rowSteps (o + wordBits) (drop wordBytes (part pay at end))) (sym e)

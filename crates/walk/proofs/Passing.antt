@@ -116,7 +116,7 @@ module _ (pay : List ℕ) (w : Walk) (p : Placed pay w) (b : w .bits ≡ 0 → �
           in
           subst (Moves pay w x) (sym (move-off w x e ∙ move-to w (w .bits) b)) (subst (Slid pay w x) same (slid-same pay w x p e))
 
--- ---- by a code of one byte
+-- ---- by a code
 
 module _ (pay : List ℕ) (w : Walk) (p : Placed pay w) (b : w .bits ≡ 0) where
   -- where the walk stands at the step, all its codes are left
@@ -127,12 +127,12 @@ module _ (pay : List ℕ) (w : Walk) (p : Placed pay w) (b : w .bits ≡ 0) wher
     pub among : Open pay w
     among = p .on (by-lt (w .step) noStep (λ g. g) (λ g. absurd (omega (arith, p .off g .at))))
 
-    code-next : (gap : ℕ) → Bytes pay → readAt (part pay (w .at) (w .end)) 0 ≡ Code gap 1 → (x : ℕ) → w .step ≡ x
-        → Slid pay w x (codedWalk (w .step + 1 + gap) (w .at + 1) (w .end) (w .block))
-    code-next gap y r x e =
+    pub code-next : (gap n : ℕ) → Bytes pay → readAt (part pay (w .at) (w .end)) 0 ≡ Code gap n → (x : ℕ) → w .step ≡ x
+        → Slid pay w x (codedWalk (w .step + 1 + gap) (w .at + n) (w .end) (w .block))
+    code-next gap n y r x e =
         let o = among in
-        let v : Walk = codedWalk (w .step + 1 + gap) (w .at + 1) (w .end) (w .block) in
-        let f = opening (w .step + 1) pay (w .at) (w .end) (o .codes b) gap 1 y (omega arith) (o .within) r in
+        let v : Walk = codedWalk (w .step + 1 + gap) (w .at + n) (w .end) (w .block) in
+        let f = opening (w .step + 1) pay (w .at) (w .end) (o .codes b) gap n y (omega arith) (o .within) r in
         let c = here-codes pay w b in
         let is : here pay w ≡ v .step ∷ here pay v = c ∙ coded-is f (w .block) in
         let small : beyond (w .step + 1) (codesIn (w .step + 1) pay (w .at) (w .end)) ≤ noStep = omega (arith, o .small, ap (beyond (w .step + 1)) c) in
@@ -154,7 +154,7 @@ module _ (pay : List ℕ) (w : Walk) (p : Placed pay w) (b : w .bits ≡ 0) wher
         }
 
     -- a walk that did not move, said by its numbers
-    code-same : (x : ℕ) → (w .step ≡ x → ⊥) → Slid pay w x (codedWalk (w .step) (w .at) (w .end) (w .block))
+    pub code-same : (x : ℕ) → (w .step ≡ x → ⊥) → Slid pay w x (codedWalk (w .step) (w .at) (w .end) (w .block))
     code-same x e =
         let o = among in
         let v : Walk = codedWalk (w .step) (w .at) (w .end) (w .block) in
@@ -193,7 +193,7 @@ module _ (pay : List ℕ) (w : Walk) (p : Placed pay w) (b : w .bits ≡ 0) wher
         by : Dec (w .step ≡ x) → Slid pay w x (codedWalk (w .step + a) (w .at + d) (w .end) (w .block))
         by (yes e) =
             let t = eq-eqb (w .step) x e in
-            slid (w .step + 1 + gap) (w .at + 1) (omega (arith, ea ∙ pick-yes (eqb (w .step) x) (gap + 1) 0 t)) (omega (arith, ed ∙ pick-yes (eqb (w .step) x) 1 0 t)) (code-next gap y r x e)
+            slid (w .step + 1 + gap) (w .at + 1) (omega (arith, ea ∙ pick-yes (eqb (w .step) x) (gap + 1) 0 t)) (omega (arith, ed ∙ pick-yes (eqb (w .step) x) 1 0 t)) (code-next gap 1 y r x e)
         by (no e) =
             let t = ne-eqb (w .step) x e in
             slid (w .step) (w .at) (omega (arith, ea ∙ pick-no (eqb (w .step) x) (gap + 1) 0 t)) (omega (arith, ed ∙ pick-no (eqb (w .step) x) 1 0 t)) (code-same x e)

@@ -51,10 +51,10 @@ module _ (xs work : List ℕ) (m : ℕ) (out₀ : List ℕ) where
   -- the block that begins at rank `i` is the next, and there is room for it
   pub record Turn (out : List ℕ) (i at p : ℕ) : Type 0 where
     pub rest : List Block
-    pub laying : Laying out i at p (blockAt (getD work (2 * i) 0) ∷ rest)
-    pub within : Within xs i (getD work (2 * i) 0)
+    pub laying : Laying out i at p (blockAt (getD work i 0) ∷ rest)
+    pub within : Within xs i (getD work i 0)
     pub entry : at + entrySize ≤ length out
-    pub part : p + length (partOf xs i (blockAt (getD work (2 * i) 0))) ≤ length out
+    pub part : p + length (partOf xs i (blockAt (getD work i 0))) ≤ length out
 
 module _ {xs work : List ℕ} {m : ℕ} {out₀ : List ℕ} where
   pub laying-start : Marks xs work → m ≡ length (cutOf xs) → payloadPlace m + length (payloadOf xs 0 (cutOf xs)) ≤ length out₀
@@ -76,11 +76,11 @@ module _ {xs work : List ℕ} {m : ℕ} {out₀ : List ℕ} where
             z;
       }
 
-  -- the next block, which the word at `2 * i` says
+  -- the next block, which the word at `i` says
   pub laying-next : {out : List ℕ} {i at p : ℕ} {left : List Block} → Laying xs work m out₀ out i at p left → i < length xs
       → Turn xs work m out₀ out i at p
   laying-next {out} {i} {at} {p} {left} l h =
-      let word : ℕ = getD work (2 * i) 0 in
+      let word : ℕ = getD work i 0 in
       let f : Head work i (length xs) left = marked-head left (l .cuts) (l .marked) h in
       let q : f .first ≡ blockAt word = sym (block-at (f .first) (f .word)) in
       let t : Laying xs work m out₀ out i at p (blockAt word ∷ f .rest) =
@@ -96,10 +96,10 @@ module _ {xs work : List ℕ} {m : ℕ} {out₀ : List ℕ} where
 
   -- its part and its entry were stored
   pub laying-turn : {out out′ : List ℕ} {i at p next : ℕ} (t : Turn xs work m out₀ out i at p)
-      → Laid xs i (getD work (2 * i) 0) (payloadPlace m) out at p out′ next
-      → Laying xs work m out₀ out′ (getD work (2 * i) 0 / 2) (at + entrySize) next (t .rest)
+      → Laid xs i (getD work i 0) (payloadPlace m) out at p out′ next
+      → Laying xs work m out₀ out′ (getD work i 0 / 2) (at + entrySize) next (t .rest)
   laying-turn {out} {out′} {i} {at} {p} {next} t d =
-      let word : ℕ = getD work (2 * i) 0 in
+      let word : ℕ = getD work i 0 in
       let bs : List Block = t .rest in
       let l = t .laying in
       let n = length-payload-of xs i (blockAt word) bs in

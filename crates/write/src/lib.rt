@@ -1,6 +1,6 @@
 // From a list of steps to its shortest image: the tests of the list, the plan of its best cut, and the blocks that the plan says, each with
-// its part of the payload and its entry. The planner leaves a word for each block in the work area: at 2·i for the block that begins at rank
-// i, twice its upto, and one more for a row.
+// its part of the payload and its entry. The planner leaves a word for each block in the work area: at i for the block that begins at rank i,
+// twice its upto, and one more for a row.
 
 ghost use mathlib.Core.Path.{_≡_};
 ghost use mathlib.Core.Bool.{true};
@@ -165,7 +165,7 @@ fn put_blocks(list: &[u32], work: &[u32], m: usize, out: &mut [u8]) -> usize
     let mut at = rules::NUMBER_SIZE;
     let mut p = base;
     while i < list.len() {
-        let word = work[2 * i] as usize;
+        let word = work[i] as usize;
         p = put_block(list, i, word, base, out, at, p);
         at += rules::ENTRY_SIZE;
         i = word / 2;

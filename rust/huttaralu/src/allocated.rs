@@ -300,7 +300,7 @@ fn pair(
         // The operation refuses it too, and says which of the two it is.
         _ => 0,
     };
-    // Room for the most steps spares the library a walk to count them. What it does not need is not touched.
+    // Room for the most steps that there can be, so that one call does. What it does not need is not touched.
     let mut steps = vec![0; most];
     let mut work = vec![0; work_needed(most)];
     let mut out = vec![0; most_bytes(most)];

@@ -1,161 +1,114 @@
--- `code::put` meets its contract: in each of the four cases the stores are the run of the code's bytes. Assumes nothing.
+-- `code::put` meets its contract: a short code is stored by `put_short`, and in the two other cases the stores are the run of the code's
+-- bytes. Assumes nothing.
 use native.Mathlib.Omega.{arith}
 use native.Mathlib.Numerals.{add-one, add-two, add-three}
 use borrow.Author.Needs.{needs}
 use lib.ListN.{length-set}
-use Rattle.code.specs.Code.Inside.{
-  code-one-byte,
-  code-two-bytes,
-  code-three-bytes,
-  code-four-bytes,
-  size-one,
-  size-two,
-  size-three,
-  size-four,
-}
+use Rattle.code.specs.Code.Inside.{code-three-bytes, code-four-bytes, size-three, size-four}
 use Rattle.code.proofs.put.Statement.{statement}
 use Rattle.code.proofs.put.Tie as tie
 
-cast-out : tie.Need-cast-out
-cast-out c = search needs
-
-slice-write-out : tie.Need-slice-write-out
-slice-write-out c = omega (arith, size-one (c .before .args .x) (omega arith))
-
-add-result : tie.Need-add-result
-add-result c = search needs
+put-short-requires : tie.Need-put-short-requires
+put-short-requires c κs = search needs
 
 same-length : tie.Need-same-length
 same-length c = search needs
 
 returns : tie.Need-returns
-returns c = (
-  omega (arith, size-one (c .before .args .x) (omega arith)),
-  simp (code-one-byte (c .before .args .x) (omega arith)),
-)
+returns c = search needs
 
 add-out : tie.Need-add-out
 add-out c = search needs
 
-cast-out-2 : tie.Need-cast-out-2
-cast-out-2 c = search needs
+cast-out : tie.Need-cast-out
+cast-out c = search needs
 
-slice-write-out-2 : tie.Need-slice-write-out-2
-slice-write-out-2 c = omega (arith, size-two (c .before .before .args .x) (omega arith) (omega arith))
-
-cast-out-3 : tie.Need-cast-out-3
-cast-out-3 c = search needs
+slice-write-out : tie.Need-slice-write-out
+slice-write-out c = omega (arith, size-three (c .before .before .before .args .x) (omega arith) (omega arith))
 
 add-out-2 : tie.Need-add-out-2
 add-out-2 c = search needs
 
-slice-write-out-3 : tie.Need-slice-write-out-3
-slice-write-out-3 c = simp length-set (omega (arith, size-two (c .before .before .args .x) (omega arith) (omega arith)))
+cast-out-2 : tie.Need-cast-out-2
+cast-out-2 c = search needs
 
-add-result-2 : tie.Need-add-result-2
-add-result-2 c = search needs
+add-out-3 : tie.Need-add-out-3
+add-out-3 c = search needs
+
+slice-write-out-2 : tie.Need-slice-write-out-2
+slice-write-out-2 c = simp length-set (omega (arith, size-three (c .before .before .before .args .x) (omega arith) (omega arith)))
+
+cast-out-3 : tie.Need-cast-out-3
+cast-out-3 c = search needs
+
+add-out-4 : tie.Need-add-out-4
+add-out-4 c = search needs
+
+slice-write-out-3 : tie.Need-slice-write-out-3
+slice-write-out-3 c = simp length-set (omega (arith, size-three (c .before .before .before .args .x) (omega arith) (omega arith)))
+
+add-result : tie.Need-add-result
+add-result c = search needs
 
 same-length-2 : tie.Need-same-length-2
 same-length-2 c = search needs
 
 returns-2 : tie.Need-returns-2
 returns-2 c = (
-  omega (arith, size-two (c .before .before .args .x) (omega arith) (omega arith)),
-  simp (code-two-bytes (c .before .before .args .x) (omega arith) (omega arith), add-one),
+  omega (arith, size-three (c .before .before .before .args .x) (omega arith) (omega arith)),
+  simp (code-three-bytes (c .before .before .before .args .x) (omega arith) (omega arith), add-one, add-two),
 )
 
-add-out-3 : tie.Need-add-out-3
-add-out-3 c = search needs
+add-out-5 : tie.Need-add-out-5
+add-out-5 c = search needs
 
 cast-out-4 : tie.Need-cast-out-4
 cast-out-4 c = search needs
 
 slice-write-out-4 : tie.Need-slice-write-out-4
-slice-write-out-4 c = omega (arith, size-three (c .before .before .before .args .x) (omega arith) (omega arith))
-
-add-out-4 : tie.Need-add-out-4
-add-out-4 c = search needs
-
-cast-out-5 : tie.Need-cast-out-5
-cast-out-5 c = search needs
-
-add-out-5 : tie.Need-add-out-5
-add-out-5 c = search needs
-
-slice-write-out-5 : tie.Need-slice-write-out-5
-slice-write-out-5 c = simp length-set (omega (arith, size-three (c .before .before .before .args .x) (omega arith) (omega arith)))
-
-cast-out-6 : tie.Need-cast-out-6
-cast-out-6 c = search needs
+slice-write-out-4 c = omega (arith, size-four (c .before .before .before .args .x) (omega arith))
 
 add-out-6 : tie.Need-add-out-6
 add-out-6 c = search needs
 
-slice-write-out-6 : tie.Need-slice-write-out-6
-slice-write-out-6 c = simp length-set (omega (arith, size-three (c .before .before .before .args .x) (omega arith) (omega arith)))
+cast-out-5 : tie.Need-cast-out-5
+cast-out-5 c = search needs
 
-add-result-3 : tie.Need-add-result-3
-add-result-3 c = search needs
+add-out-7 : tie.Need-add-out-7
+add-out-7 c = search needs
+
+slice-write-out-5 : tie.Need-slice-write-out-5
+slice-write-out-5 c = simp length-set (omega (arith, size-four (c .before .before .before .args .x) (omega arith)))
+
+add-out-8 : tie.Need-add-out-8
+add-out-8 c = search needs
+
+cast-out-6 : tie.Need-cast-out-6
+cast-out-6 c = search needs
+
+add-out-9 : tie.Need-add-out-9
+add-out-9 c = search needs
+
+slice-write-out-6 : tie.Need-slice-write-out-6
+slice-write-out-6 c = simp length-set (omega (arith, size-four (c .before .before .before .args .x) (omega arith)))
+
+cast-out-7 : tie.Need-cast-out-7
+cast-out-7 c = search needs
+
+add-out-10 : tie.Need-add-out-10
+add-out-10 c = search needs
+
+slice-write-out-7 : tie.Need-slice-write-out-7
+slice-write-out-7 c = simp length-set (omega (arith, size-four (c .before .before .before .args .x) (omega arith)))
+
+add-result-2 : tie.Need-add-result-2
+add-result-2 c = search needs
 
 same-length-3 : tie.Need-same-length-3
 same-length-3 c = search needs
 
 returns-3 : tie.Need-returns-3
 returns-3 c = (
-  omega (arith, size-three (c .before .before .before .args .x) (omega arith) (omega arith)),
-  simp (code-three-bytes (c .before .before .before .args .x) (omega arith) (omega arith), add-one, add-two),
-)
-
-add-out-7 : tie.Need-add-out-7
-add-out-7 c = search needs
-
-cast-out-7 : tie.Need-cast-out-7
-cast-out-7 c = search needs
-
-slice-write-out-7 : tie.Need-slice-write-out-7
-slice-write-out-7 c = omega (arith, size-four (c .before .before .before .args .x) (omega arith))
-
-add-out-8 : tie.Need-add-out-8
-add-out-8 c = search needs
-
-cast-out-8 : tie.Need-cast-out-8
-cast-out-8 c = search needs
-
-add-out-9 : tie.Need-add-out-9
-add-out-9 c = search needs
-
-slice-write-out-8 : tie.Need-slice-write-out-8
-slice-write-out-8 c = simp length-set (omega (arith, size-four (c .before .before .before .args .x) (omega arith)))
-
-add-out-10 : tie.Need-add-out-10
-add-out-10 c = search needs
-
-cast-out-9 : tie.Need-cast-out-9
-cast-out-9 c = search needs
-
-add-out-11 : tie.Need-add-out-11
-add-out-11 c = search needs
-
-slice-write-out-9 : tie.Need-slice-write-out-9
-slice-write-out-9 c = simp length-set (omega (arith, size-four (c .before .before .before .args .x) (omega arith)))
-
-cast-out-10 : tie.Need-cast-out-10
-cast-out-10 c = search needs
-
-add-out-12 : tie.Need-add-out-12
-add-out-12 c = search needs
-
-slice-write-out-10 : tie.Need-slice-write-out-10
-slice-write-out-10 c = simp length-set (omega (arith, size-four (c .before .before .before .args .x) (omega arith)))
-
-add-result-4 : tie.Need-add-result-4
-add-result-4 c = search needs
-
-same-length-4 : tie.Need-same-length-4
-same-length-4 c = search needs
-
-returns-4 : tie.Need-returns-4
-returns-4 c = (
   omega (arith, size-four (c .before .before .before .args .x) (omega arith)),
   simp (code-four-bytes (c .before .before .before .args .x) (omega arith), add-one, add-two, add-three),
 )
@@ -164,47 +117,36 @@ pub put-spec : {M : Type 1} → statement M
 put-spec =
     tie.close
     (tie.spec
-    cast-out
-    slice-write-out
-    add-result
+    put-short-requires
     same-length
     returns
     add-out
+    cast-out
+    slice-write-out
+    add-out-2
     cast-out-2
+    add-out-3
     slice-write-out-2
     cast-out-3
-    add-out-2
+    add-out-4
     slice-write-out-3
-    add-result-2
+    add-result
     same-length-2
     returns-2
-    add-out-3
+    add-out-5
     cast-out-4
     slice-write-out-4
-    add-out-4
-    cast-out-5
-    add-out-5
-    slice-write-out-5
-    cast-out-6
     add-out-6
-    slice-write-out-6
-    add-result-3
-    same-length-3
-    returns-3
+    cast-out-5
     add-out-7
-    cast-out-7
-    slice-write-out-7
+    slice-write-out-5
     add-out-8
-    cast-out-8
+    cast-out-6
     add-out-9
-    slice-write-out-8
+    slice-write-out-6
+    cast-out-7
     add-out-10
-    cast-out-9
-    add-out-11
-    slice-write-out-9
-    cast-out-10
-    add-out-12
-    slice-write-out-10
-    add-result-4
-    same-length-4
-    returns-4)
+    slice-write-out-7
+    add-result-2
+    same-length-3
+    returns-3)

@@ -15,6 +15,7 @@ use Rattle.code.specs.declared.Flaw.{Flaw}
 use Rattle.code.specs.declared.Reading.the-variants.{Code, Bad}
 use Rattle.code.specs.Code.Open.{oneGroup, twoGroups, threeGroups, codeValues, flag, codeOf, codeSize, readAt}
 use Rattle.code.specs.Code.Inside.{
+  code-one-byte,
   size-one,
   size-two,
   size-three,
@@ -69,6 +70,10 @@ size-mono =
   where
     three : (y : ℕ) → twoGroups ≤ y → 3 ≤ codeSize y
     three y g = by-lt y threeGroups (λ h. omega (arith, size-three y g h)) (λ h. omega (arith, size-four y h))
+
+-- a number of one group is its own code
+pub code-single : (x : ℕ) → x < oneGroup → codeOf x ≡ x ∷ []
+code-single x h = code-one-byte x h
 
 -- a code is made of bytes
 pub bytes-code : (x : ℕ) → x < codeValues → Bytes (codeOf x)

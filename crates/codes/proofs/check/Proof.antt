@@ -1,16 +1,13 @@
 -- `codes::check` meets its contract. The invariant: what is to be found is what is found from `at` on, after `count` steps that end
 -- before `next`. A step is below the values of a code for each byte passed, so that no sum wraps. Assumes nothing.
 use mathlib.Core.Path.{_≡_, refl, sym, _∙_}
-use Prim.Native.Nat.{_+_, _-_, _*_, _≤_}
+use Prim.Native.Nat.{_+_, _-_, _*_, _^_, _≤_}
 use native.Mathlib.Omega.{arith}
-use borrow.Author.Needs.{needs}
 use lib.ListN.{length}
-use Rattle.code.specs.declared.Reading.the-variants.{Code}
-use Rattle.code.specs.Code.{codeValues, readAt}
-use Rattle.code.specs.Code.Laws.{Read, read-sound}
+use Rattle.code.specs.Code.{codeValues}
+use Rattle.code.specs.Runs.{Passed}
 use Rattle.codes.specs.Codes.{stepsFrom, tallyOf}
-use Rattle.codes.proofs.Codes.{read-passes}
-use Rattle.codes.proofs.Turns.{tally-more, tally-bad, tally-end}
+use Rattle.codes.proofs.Passing.{passed-few, passed-tally}
 use Rattle.codes.proofs.check.Statement.{statement}
 use Rattle.codes.proofs.check.Tie as tie
 
@@ -18,7 +15,7 @@ abbrev Inv-loop : tie.InvT-loop
 Inv-loop part from at₀ count₀ next₀ at count next =
     (at ≤ length part)
     × (tallyOf 0 from (stepsFrom from part 0) ≡ tallyOf count next (stepsFrom next part at))
-    × (next ≤ from + at * codeValues)
+    × (next ≤ 2 ^ 32 + at * codeValues)
     × (count ≤ at)
 
 abbrev μ-loop : tie.MeasureT-loop
@@ -27,69 +24,63 @@ abbrev μ-loop : tie.MeasureT-loop
 loop-holds : tie.Need-loop-holds Inv-loop μ-loop
 loop-holds c = (omega arith, refl, omega arith, omega arith)
 
-read-requires : tie.Need-read-requires Inv-loop μ-loop
-read-requires c κs = search needs
+sub-loop : tie.Need-sub-loop Inv-loop μ-loop
+sub-loop c = omega arith
 
-enum-known-r : tie.Need-enum-known-r Inv-loop μ-loop
-enum-known-r c = search needs
+pass-requires : tie.Need-pass-requires Inv-loop μ-loop
+pass-requires c κs = omega arith
 
--- the turn of a code that was read: where the loop stood, and the code's value with the place after it
-abbrev Turned : Type 0
-Turned = tie.After-known-told Inv-loop μ-loop
+check-from-requires : tie.Need-check-from-requires Inv-loop μ-loop
+check-from-requires c κs = (omega arith, (omega arith, (omega arith, omega arith)))
 
-abbrev loop : Turned → tie.At-loop Inv-loop μ-loop
+returns : tie.Need-returns Inv-loop μ-loop
+returns c = c .check-from .ensures ∙ sym (c .before .before .before .before .before .loop .inv .1)
+
+-- the codes of a stretch were passed
+abbrev Went : Type 0
+Went = tie.After-struct-known2 Inv-loop μ-loop
+
+abbrev loop : Went → tie.At-loop Inv-loop μ-loop
 loop c = c .before .before .before .before .before
 
-read-is : (c : Turned)
-    → let r = c .before .r .given .0 in readAt (loop c .before .before .args .part .now) (loop c .loop .at) ≡ Code (r .0) (r .1 .0)
-read-is c = sym (c .before .before .before .read .ensures) ∙ c .before .r .given .1
+passed : (c : Went)
+    → let r = c .before .before .before .pass .result in
+    Passed (loop c .before .before .args .part .now) (loop c .loop .at) (r .after) (r .count) (r .value)
+passed c = c .before .before .before .pass .ensures (omega arith)
 
-read-here : (c : Turned)
-    → let r = c .before .r .given .0 in Read (loop c .before .before .args .part .now) (loop c .loop .at) (r .0) (r .1 .0)
-read-here c = read-sound _ _ _ _ (λ i. omega (arith, loop c .before .shared-slice-known .given i)) (read-is c)
-
-cast-next : tie.Need-cast-next Inv-loop μ-loop
-cast-next c = search needs
-
-add-next : tie.Need-add-next Inv-loop μ-loop
-add-next c = omega (arith, read-here c .small)
-
-add-next-2 : tie.Need-add-next-2 Inv-loop μ-loop
-add-next-2 c = omega (arith, read-here c .small)
+few : (c : Went)
+    → let r = c .before .before .before .pass .result in
+    let at = loop c .loop .at in
+    (at + r .count ≤ r .after) × (r .value + r .count + at * codeValues ≤ r .after * codeValues)
+few c = passed-few (λ i. omega (arith, loop c .before .shared-slice-known .given i)) (passed c)
 
 add-count : tie.Need-add-count Inv-loop μ-loop
-add-count c = search needs
+add-count c = omega (arith, few c, passed c .within)
+
+add-next : tie.Need-add-next Inv-loop μ-loop
+add-next c = omega (arith, few (c .before), passed (c .before) .within)
+
+add-next-2 : tie.Need-add-next-2 Inv-loop μ-loop
+add-next-2 c = omega (arith, few (c .before), passed (c .before) .within)
 
 loop-less : tie.Need-loop-less Inv-loop μ-loop
-loop-less c = omega (arith, read-passes (read-here c), read-here c .within)
+loop-less c = omega (arith, passed (c .before) .within)
 
 loop-again : tie.Need-loop-again Inv-loop μ-loop
 loop-again c =
-    let l = loop c .loop in
-    let r = read-here c in
-    let p = read-passes r in (
-      r .within,
-      l .inv .1 ∙ tally-more (l .count) (l .next) _ (l .at) r (read-is c),
-      omega (arith, r .small),
-      omega arith,
+    let l = loop (c .before) .loop in
+    let t = passed (c .before) in (
+      t .within,
+      l .inv .1 ∙ passed-tally (λ i. omega (arith, loop (c .before) .before .shared-slice-known .given i)) t (l .count) (l .next),
+      omega (arith, few (c .before)),
+      omega (arith, few (c .before)),
     )
 
-enum-known-r-2 : tie.Need-enum-known-r-2 Inv-loop μ-loop
-enum-known-r-2 c = search needs
-
-returns : tie.Need-returns Inv-loop μ-loop
-returns c =
-    let d = c .before .before .before .before .before in
-    let l = d .loop in
-    sym
-    (l .inv .1
-    ∙ tally-bad (l .count) (l .next) (d .before .before .args .part .now) (l .at) (c .before .r2 .given .0 .0) (omega arith)
-    (sym (c .before .before .before .read .ensures) ∙ c .before .r2 .given .1))
+check-from-requires-2 : tie.Need-check-from-requires-2 Inv-loop μ-loop
+check-from-requires-2 c κs = (omega arith, (omega arith, (omega arith, omega arith)))
 
 returns-2 : tie.Need-returns-2 Inv-loop μ-loop
-returns-2 c =
-    let l = c .before .loop in
-    sym (l .inv .1 ∙ tally-end (l .count) (l .next) (c .before .before .before .args .part .now) (l .at) (omega arith))
+returns-2 c = c .check-from2 .ensures ∙ sym (c .before .before .loop .inv .1)
 
 pub check-spec : {M : Type 1} → statement M
 check-spec =
@@ -98,14 +89,14 @@ check-spec =
     Inv-loop
     μ-loop
     loop-holds
-    read-requires
-    enum-known-r
-    cast-next
+    sub-loop
+    pass-requires
+    check-from-requires
+    returns
+    add-count
     add-next
     add-next-2
-    add-count
     loop-less
     loop-again
-    enum-known-r-2
-    returns
+    check-from-requires-2
     returns-2)

@@ -1,16 +1,14 @@
--- `codes::first_in` meets its contract. The invariant: `index` steps were passed, which are below x, and those from `at` on are left.
+-- `codes::first_in` meets its contract. The invariant: `index` steps were passed, which are below x, and what is looked for is found among
+-- those from `at` on.
 -- Assumes nothing.
-use mathlib.Core.Path.{_≡_, refl, sym, ap, _∙_}
-use mathlib.Core.List.{List, [], _∷_}
-use Prim.Native.Nat.{ℕ, _+_, _-_, _≤_}
+use mathlib.Core.Path.{refl, _∙_}
+use Prim.Native.Nat.{_+_, _-_, _≤_}
 use native.Mathlib.Omega.{arith}
-use borrow.Author.Needs.{needs}
-use lib.ListN.{length, getD, drop}
-use Rattle.lists.specs.Below.{below}
-use Rattle.lists.proofs.Parts.{drop-run, getD-first}
-use Rattle.lists.proofs.Below.{below-nil, below-here, below-past}
+use lib.ListN.{length}
+use Rattle.code.specs.Runs.{Passed}
 use Rattle.codes.specs.Codes.{stepsFrom, listOf, Sound}
-use Rattle.codes.proofs.Turns.{steps-none}
+use Rattle.codes.proofs.Finding.{Ahead, ahead-answer}
+use Rattle.codes.proofs.Passing.{passed-few, Skipped, passed-steps, skipped-found}
 use Rattle.codes.proofs.first_in.Statement.{statement}
 use Rattle.codes.proofs.first_in.Tie as tie
 
@@ -18,61 +16,86 @@ abbrev Inv-loop : tie.InvT-loop
 Inv-loop part from x at₀ next₀ index₀ at next index =
     (at ≤ length part)
     × Sound next (stepsFrom next part at)
-    × (below (listOf (stepsFrom from part 0)) x ≡ index + below (listOf (stepsFrom next part at)) x)
-    × (drop index (listOf (stepsFrom from part 0)) ≡ listOf (stepsFrom next part at))
+    × Ahead (listOf (stepsFrom from part 0)) (listOf (stepsFrom next part at)) x index
     × (index ≤ at)
 
 abbrev μ-loop : tie.MeasureT-loop
 μ-loop part from x at₀ next₀ index₀ at next index = length part - at
 
--- what stands at an index, where this is left from there on
-first-left : (xs : List ℕ) (i : ℕ) {ys : List ℕ} → drop i xs ≡ ys → getD xs i 0 ≡ getD ys 0 0
-first-left xs i e = getD-first xs i 0 ∙ ap (λ (l : List ℕ). getD l 0 0) e
-
 loop-holds : tie.Need-loop-holds Inv-loop μ-loop
-loop-holds c = (omega arith, c .before .pre, omega arith, refl, omega arith)
+loop-holds c = (omega arith, c .before .pre, record { rank = omega arith; found = refl }, omega arith)
 
-next-step-requires : tie.Need-next-step-requires Inv-loop μ-loop
-next-step-requires c κs = (c .before .loop .inv .1, omega arith)
+sub-loop : tie.Need-sub-loop Inv-loop μ-loop
+sub-loop c = omega arith
+
+pass-requires : tie.Need-pass-requires Inv-loop μ-loop
+pass-requires c κs = omega arith
+
+first-from-requires : tie.Need-first-from-requires Inv-loop μ-loop
+first-from-requires c κs = let l = c .before .before .before .before .loop in (l .inv .0, (l .inv .1, l .inv .3))
 
 returns : tie.Need-returns Inv-loop μ-loop
-returns c =
-    let l = c .before .before .before .before .loop in
-    let a = c .before .before .before .before .before .before .args in
-    let t = c .before .before .next-step in (
-      omega (arith, l .inv .2, ap (λ (r : List ℕ). below r (a .x)) (t .ensures .is) ∙ below-here (t .result .step) _ (a .x) (omega arith)),
-      sym (first-left (listOf (stepsFrom (a .from) (a .part .now) 0)) (l .index) (l .inv .3 ∙ t .ensures .is)),
-    )
+returns c = ahead-answer (c .before .before .before .before .before .loop .inv .2) (c .first-from .ensures)
+
+-- the codes of a stretch were passed
+abbrev Went : Type 0
+Went = tie.After-struct-known2 Inv-loop μ-loop
+
+abbrev loop : Went → tie.At-loop Inv-loop μ-loop
+loop c = c .before .before .before .before .before
+
+passed : (c : Went)
+    → let r = c .before .before .before .pass .result in
+    Passed (loop c .before .before .args .part .now) (loop c .loop .at) (r .after) (r .count) (r .value)
+passed c = c .before .before .before .pass .ensures (omega arith)
+
+skipped : (c : Went)
+    → let r = c .before .before .before .pass .result in
+    let l = loop c .loop in
+    Skipped (l .next) (loop c .before .before .args .part .now) (l .at) (r .after) (r .count) (l .next + (r .value + r .count))
+skipped c =
+    passed-steps (λ i. omega (arith, loop c .before .shared-slice-known .given i)) (passed c) (loop c .loop .next) (loop c .loop .inv .1)
+
+few : (c : Went) → let r = c .before .before .before .pass .result in loop c .loop .at + r .count ≤ r .after
+few c = passed-few (λ i. omega (arith, loop c .before .shared-slice-known .given i)) (passed c) .0
+
+add-beyond : tie.Need-add-beyond Inv-loop μ-loop
+add-beyond c = omega (arith, skipped c .fits)
+
+add-beyond-2 : tie.Need-add-beyond-2 Inv-loop μ-loop
+add-beyond-2 c = omega (arith, skipped c .fits)
+
+first-from-requires-2 : tie.Need-first-from-requires-2 Inv-loop μ-loop
+first-from-requires-2 c κs = let l = c .before .before .before .before .before .before .loop in (l .inv .0, (l .inv .1, l .inv .3))
+
+returns-2 : tie.Need-returns-2 Inv-loop μ-loop
+returns-2 c = ahead-answer (c .before .before .before .before .before .before .before .loop .inv .2) (c .first-from2 .ensures)
 
 add-index : tie.Need-add-index Inv-loop μ-loop
-add-index c = search needs
-
-add-next : tie.Need-add-next Inv-loop μ-loop
-add-next c = omega (arith, c .before .before .before .next-step .ensures .fits)
+add-index c = omega (arith, passed (c .before .before) .within, few (c .before .before))
 
 loop-less : tie.Need-loop-less Inv-loop μ-loop
-loop-less c = let t = c .before .before .before .next-step .ensures in omega (arith, t .on, t .within)
+loop-less c = omega (arith, passed (c .before .before) .within)
 
 loop-again : tie.Need-loop-again Inv-loop μ-loop
 loop-again c =
-    let l = c .before .before .before .before .before .loop in
-    let a = c .before .before .before .before .before .before .before .args in
-    let t = c .before .before .before .next-step in (
-      t .ensures .within,
-      t .ensures .sound,
-      omega (arith, l .inv .2, ap (λ (r : List ℕ). below r (a .x)) (t .ensures .is) ∙ below-past (t .result .step) _ (a .x) (omega arith)),
-      drop-run (listOf (stepsFrom (a .from) (a .part .now) 0)) (l .index) (t .result .step ∷ []) _ (l .inv .3 ∙ t .ensures .is),
-      omega (arith, t .ensures .on),
+    let l = loop (c .before .before) .loop in
+    let x = loop (c .before .before) .before .before .args .x in
+    let t = skipped (c .before .before) in (
+      passed (c .before .before) .within,
+      t .sound,
+      record {
+        rank = omega (arith, l .inv .2 .rank, t .under x (omega arith));
+        found = l .inv .2 .found ∙ skipped-found t x (omega arith);
+      },
+      omega (arith, l .inv .3, few (c .before .before)),
     )
 
-returns-2 : tie.Need-returns-2 Inv-loop μ-loop
-returns-2 c =
-    let l = c .before .loop in
-    let a = c .before .before .before .args in
-    let n = steps-none (l .next) (a .part .now) (l .at) (omega arith) in (
-      omega (arith, l .inv .2, ap (λ (r : List ℕ). below r (a .x)) n ∙ below-nil (a .x)),
-      sym (first-left (listOf (stepsFrom (a .from) (a .part .now) 0)) (l .index) (l .inv .3 ∙ n)),
-    )
+first-from-requires-3 : tie.Need-first-from-requires-3 Inv-loop μ-loop
+first-from-requires-3 c κs = let l = c .before .loop in (l .inv .0, (l .inv .1, l .inv .3))
+
+returns-3 : tie.Need-returns-3 Inv-loop μ-loop
+returns-3 c = ahead-answer (c .before .before .loop .inv .2) (c .first-from3 .ensures)
 
 pub first-in-spec : {M : Type 1} → statement M
 first-in-spec =
@@ -81,10 +104,16 @@ first-in-spec =
     Inv-loop
     μ-loop
     loop-holds
-    next-step-requires
+    sub-loop
+    pass-requires
+    first-from-requires
     returns
+    add-beyond
+    add-beyond-2
+    first-from-requires-2
+    returns-2
     add-index
-    add-next
     loop-less
     loop-again
-    returns-2)
+    first-from-requires-3
+    returns-3)

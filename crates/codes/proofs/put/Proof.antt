@@ -1,16 +1,18 @@
 -- `codes::put` meets its contract. The invariant: the codes have been stored, but for those of the steps from rank `i` on, which go to
 -- the place `p`. Assumes nothing.
-use mathlib.Core.Path.{sym, ap, _∙_}
+use mathlib.Core.Path.{sym, ap, _∙_, subst}
+use mathlib.Core.List.{List}
 use Prim.Native.Nat.{ℕ, _+_, _-_, _≤_}
 use native.Mathlib.Omega.{arith}
-use borrow.Author.Needs.{needs}
-use lib.ListN.{length, getD, drop}
+use lib.ListN.{length, drop}
+use lib.Seq.{length-sets}
 use Rattle.lists.specs.Rising.{Rising, beyond}
-use Rattle.lists.proofs.Stores.{Storing, storing-start, storing-run, storing-end}
-use Rattle.code.specs.Code.{codeValues, codeOf}
-use Rattle.code.specs.Code.Laws.{length-code}
+use Rattle.lists.specs.Parts.{part}
+use Rattle.lists.proofs.Parts.{part-end}
+use Rattle.lists.proofs.Stores.{Storing, storing-start, storing-run}
+use Rattle.code.specs.Code.{codeValues}
 use Rattle.codes.specs.Codes.{codesFor}
-use Rattle.codes.proofs.Turns.{Next, next, codes-none}
+use Rattle.codes.proofs.Groups.{Parted, parted, storing-rest}
 use Rattle.codes.proofs.put.Statement.{statement}
 use Rattle.codes.proofs.put.Tie as tie
 
@@ -29,56 +31,82 @@ loop-holds c =
     let s = c .before .before in
     (omega arith, storing-start _ _ _ (s .pre .1 .1), s .pre .0, s .pre .1 .0)
 
-mul-x : tie.Need-mul-x Inv-loop μ-loop
-mul-x c = search needs
+sub-loop : tie.Need-sub-loop Inv-loop μ-loop
+sub-loop c = omega arith
 
-shared-slice-read-x : tie.Need-shared-slice-read-x Inv-loop μ-loop
-shared-slice-read-x c = search needs
+put-some-requires : tie.Need-put-some-requires Inv-loop μ-loop
+put-some-requires c κs =
+    let l = c .before .before .loop in
+    (omega arith, (l .inv .2, (l .inv .3, l .inv .1 .room)))
 
--- the step of this turn
-this : (d : tie.In-loop Inv-loop μ-loop)
-    → let l = d .before .loop in Next (l .next) (d .before .before .before .before .args .list .now) (l .i)
-this d =
-    let l = d .before .loop in
-    next (l .next) (d .before .before .before .before .args .list .now) (l .i) (omega arith) (l .inv .2) (l .inv .3)
+sub-next : tie.Need-sub-next Inv-loop μ-loop
+sub-next c = omega arith
 
-sub-put : tie.Need-sub-put Inv-loop μ-loop
-sub-put c = this (c .before .before) .least
+mul-next : tie.Need-mul-next Inv-loop μ-loop
+mul-next c = omega arith
 
-put-requires : tie.Need-put-requires Inv-loop μ-loop
-put-requires c κs =
-    let t = this (c .before .before) in
-    let l = c .before .before .before .loop in
-    (omega (arith, t .small), omega (arith, l .inv .1 .room, t .room))
+shared-slice-read-next : tie.Need-shared-slice-read-next Inv-loop μ-loop
+shared-slice-read-next c = omega arith
+
+-- a part of what was left was written
+wrote : (c : tie.After-shared-slice-known2 Inv-loop μ-loop)
+    → let l = c .before .before .before .before .before .before .before in
+    Parted (l .loop .next) (l .before .before .before .args .list .now) (l .loop .i) (c .before .before .before .before .put-some .result .upto)
+wrote c =
+    let l = c .before .before .before .before .before .before .before in
+    let t = c .before .before .before .before .put-some in
+    parted (l .loop .next) (l .before .before .before .args .list .now) (l .loop .i) (t .result .upto) (t .ensures .0 .0) (t .ensures .0 .1)
+    (l .loop .inv .2) (l .loop .inv .3)
 
 add-next : tie.Need-add-next Inv-loop μ-loop
-add-next c = omega (arith, this (c .before .before .before .before .before) .small)
-
-add-i : tie.Need-add-i Inv-loop μ-loop
-add-i c = search needs
+add-next c = omega (arith, wrote c .small)
 
 loop-less : tie.Need-loop-less Inv-loop μ-loop
-loop-less c = search needs
+loop-less c = omega arith
 
 loop-again : tie.Need-loop-again Inv-loop μ-loop
 loop-again c =
-    let t = this (c .before .before .before .before .before) in
-    let l = c .before .before .before .before .before .before .loop in
-    let v = getD (c .before .before .before .before .before .before .before .before .before .args .list .now) (l .i) 0 - l .next in
-    let p = c .before .before .put in (
-      omega arith,
-      storing-run (l .inv .1) (codeOf v) _ (t .codes) (p .ensures .0 ∙ ap (λ (n : ℕ). l .p + n) (sym (length-code v))) (p .ensures .1),
-      t .rising,
-      t .end,
+    let l = c .before .before .before .before .before .before .before .loop in
+    let t = c .before .before .before .before .put-some .ensures in
+    let w = wrote c in
+    let us = codesFor (l .next) (part (c .before .before .before .before .before .before .before .before .before .before .args .list .now) (l .i) (c .before .before .before .before .put-some .result .upto)) in
+    (t .0 .1, storing-run (l .inv .1) us _ (w .codes) (t .1 .0) (t .1 .1), w .rising-left, w .end-left)
+
+mul-put-each : tie.Need-mul-put-each Inv-loop μ-loop
+mul-put-each c = omega arith
+
+sub-put-each : tie.Need-sub-put-each Inv-loop μ-loop
+sub-put-each c = omega arith
+
+part-put-each-start : tie.Need-part-put-each-start Inv-loop μ-loop
+part-put-each-start c = omega arith
+
+part-put-each-end : tie.Need-part-put-each-end Inv-loop μ-loop
+part-put-each-end c = omega arith
+
+put-each-requires : tie.Need-put-each-requires Inv-loop μ-loop
+put-each-requires c κs =
+    let l = c .before .before .before .loop in
+    let xs = c .before .before .before .before .before .before .args .list .now in
+    let e = part-end xs (l .i) in (
+      subst (Rising (l .next)) (sym e) (l .inv .2),
+      (
+        subst (λ (r : List ℕ). beyond (l .next) r ≤ codeValues) (sym e) (l .inv .3),
+        subst (λ (r : List ℕ). l .p + length (codesFor (l .next) r) ≤ length (l .out)) (sym e) (l .inv .1 .room),
+      ),
     )
 
 same-length : tie.Need-same-length Inv-loop μ-loop
-same-length c = c .before .loop .inv .1 .same
+same-length c =
+    let l = c .before .before .before .before .before .before .loop in
+    let xs = c .before .before .before .before .before .before .before .before .before .args .list .now in
+    ap length (c .before .before .put-each .ensures .1) ∙ length-sets (l .out) (l .p) (codesFor (l .next) (part xs (l .i) (length xs))) ∙ l .inv .1 .same
 
 returns : tie.Need-returns Inv-loop μ-loop
 returns c =
-    let l = c .before .loop in
-    storing-end (l .inv .1) (codes-none (l .next) (c .before .before .before .before .args .list .now) (l .i) (omega arith))
+    let l = c .before .before .before .before .before .before .loop in
+    let t = c .before .before .put-each .ensures in
+    storing-rest (l .inv .1) (ap (codesFor (l .next)) (part-end (c .before .before .before .before .before .before .before .before .before .args .list .now) (l .i))) (t .0) (t .1)
 
 pub put-spec : {M : Type 1} → statement M
 put-spec =
@@ -87,13 +115,18 @@ put-spec =
     Inv-loop
     μ-loop
     loop-holds
-    mul-x
-    shared-slice-read-x
-    sub-put
-    put-requires
+    sub-loop
+    put-some-requires
+    sub-next
+    mul-next
+    shared-slice-read-next
     add-next
-    add-i
     loop-less
     loop-again
+    mul-put-each
+    sub-put-each
+    part-put-each-start
+    part-put-each-end
+    put-each-requires
     same-length
     returns)

@@ -1,13 +1,12 @@
 -- `codes::step_at` meets its contract. The invariant: the step asked for is the one at index `left` of the steps from `at` on.
 -- Assumes nothing.
-use mathlib.Core.Path.{_≡_, refl, sym, ap, _∙_}
-use Prim.Native.Nat.{_-_, _≤_, _<_}
+use mathlib.Core.Path.{_≡_, refl, sym, _∙_}
+use Prim.Native.Nat.{_+_, _-_, _≤_, _<_}
 use native.Mathlib.Omega.{arith}
-use borrow.Author.Needs.{needs}
 use lib.ListN.{length, getD}
-use Rattle.lists.proofs.Parts.{getD-here, getD-past}
+use Rattle.code.specs.Runs.{Passed}
 use Rattle.codes.specs.Codes.{stepsFrom, listOf, Sound}
-use Rattle.codes.proofs.Turns.{steps-none}
+use Rattle.codes.proofs.Passing.{Skipped, passed-steps, skipped-length, skipped-at}
 use Rattle.codes.proofs.step_at.Statement.{statement}
 use Rattle.codes.proofs.step_at.Tie as tie
 
@@ -24,38 +23,67 @@ abbrev μ-loop : tie.MeasureT-loop
 loop-holds : tie.Need-loop-holds Inv-loop μ-loop
 loop-holds c = (omega arith, c .before .pre .0, refl, c .before .pre .1)
 
-next-step-requires : tie.Need-next-step-requires Inv-loop μ-loop
-next-step-requires c κs = (c .before .loop .inv .1, omega arith)
+sub-loop : tie.Need-sub-loop Inv-loop μ-loop
+sub-loop c = omega arith
+
+pass-requires : tie.Need-pass-requires Inv-loop μ-loop
+pass-requires c κs = omega arith
+
+step-from-requires : tie.Need-step-from-requires Inv-loop μ-loop
+step-from-requires c κs = let l = c .before .before .before .before .loop in (l .inv .0, (l .inv .1, l .inv .3))
 
 returns : tie.Need-returns Inv-loop μ-loop
-returns c =
-    let l = c .before .before .before .loop in
-    let t = c .before .next-step .ensures in
-    sym (l .inv .2 ∙ getD-here (l .left) 0 (t .is) (c .if1 .taken))
+returns c = c .step-from .ensures ∙ sym (c .before .before .before .before .before .loop .inv .2)
 
-sub-left : tie.Need-sub-left Inv-loop μ-loop
-sub-left c = search needs
+step-from-requires-2 : tie.Need-step-from-requires-2 Inv-loop μ-loop
+step-from-requires-2 c κs = let l = c .before .before .before .before .before .before .loop in (l .inv .0, (l .inv .1, l .inv .3))
+
+returns-2 : tie.Need-returns-2 Inv-loop μ-loop
+returns-2 c = c .step-from2 .ensures ∙ sym (c .before .before .before .before .before .before .before .loop .inv .2)
+
+-- the codes of a stretch were passed
+abbrev Went : Type 0
+Went = tie.After-struct-known2 Inv-loop μ-loop
+
+abbrev loop : Went → tie.At-loop Inv-loop μ-loop
+loop c = c .before .before .before .before .before
+
+passed : (c : Went)
+    → let r = c .before .before .before .pass .result in
+    Passed (loop c .before .before .args .part .now) (loop c .loop .at) (r .after) (r .count) (r .value)
+passed c = c .before .before .before .pass .ensures (omega arith)
+
+skipped : (c : Went)
+    → let r = c .before .before .before .pass .result in
+    let l = loop c .loop in
+    Skipped (l .next) (loop c .before .before .args .part .now) (l .at) (r .after) (r .count) (l .next + (r .value + r .count))
+skipped c =
+    passed-steps (λ i. omega (arith, loop c .before .shared-slice-known .given i)) (passed c) (loop c .loop .next) (loop c .loop .inv .1)
 
 add-next : tie.Need-add-next Inv-loop μ-loop
-add-next c = omega (arith, c .before .before .next-step .ensures .fits)
+add-next c = omega (arith, skipped (c .before .before .before) .fits)
+
+add-next-2 : tie.Need-add-next-2 Inv-loop μ-loop
+add-next-2 c = omega (arith, skipped (c .before .before .before) .fits)
 
 loop-less : tie.Need-loop-less Inv-loop μ-loop
-loop-less c = let t = c .before .before .next-step .ensures in omega (arith, t .on, t .within)
+loop-less c = omega (arith, passed (c .before .before .before) .within)
 
 loop-again : tie.Need-loop-again Inv-loop μ-loop
 loop-again c =
-    let l = c .before .before .before .before .loop in
-    let t = c .before .before .next-step .ensures in (
-      t .within,
+    let l = loop (c .before .before .before) .loop in
+    let t = skipped (c .before .before .before) in (
+      passed (c .before .before .before) .within,
       t .sound,
-      l .inv .2 ∙ getD-past (l .left) 0 (t .is) (c .before .if1 .left),
-      omega (arith, l .inv .3, ap length (t .is), c .before .if1 .left),
+      l .inv .2 ∙ skipped-at t (l .left) (omega arith),
+      omega (arith, l .inv .3, skipped-length t),
     )
 
-returns-2 : tie.Need-returns-2 Inv-loop μ-loop
-returns-2 c =
-    let l = c .before .loop in
-    absurd (omega (arith, l .inv .3, ap length (steps-none (l .next) (c .before .before .before .args .part .now) (l .at) (omega arith))))
+step-from-requires-3 : tie.Need-step-from-requires-3 Inv-loop μ-loop
+step-from-requires-3 c κs = let l = c .before .loop in (l .inv .0, (l .inv .1, l .inv .3))
+
+returns-3 : tie.Need-returns-3 Inv-loop μ-loop
+returns-3 c = c .step-from3 .ensures ∙ sym (c .before .before .loop .inv .2)
 
 pub step-at-spec : {M : Type 1} → statement M
 step-at-spec =
@@ -64,10 +92,15 @@ step-at-spec =
     Inv-loop
     μ-loop
     loop-holds
-    next-step-requires
+    sub-loop
+    pass-requires
+    step-from-requires
     returns
-    sub-left
+    step-from-requires-2
+    returns-2
     add-next
+    add-next-2
     loop-less
     loop-again
-    returns-2)
+    step-from-requires-3
+    returns-3)

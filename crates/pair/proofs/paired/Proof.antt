@@ -1,34 +1,26 @@
 -- `pair::paired` meets its contract: each image is checked in turn, and a refusal is that image's. Assumes nothing.
-use mathlib.Core.Path.{_≡_, sym, ap, _∙_}
 use borrow.Author.Needs.{needs}
-use lib.ListN.{length}
-use Rattle.image.specs.Taken.{stepsOf, Taken}
+use Rattle.image.specs.Taken.{Taken}
 use Rattle.image.proofs.Taken.{taken-is}
 use Rattle.read.proofs.Answers.{answer-yes, answer-no}
 use Rattle.pair.proofs.Outcomes.{promise-first, promise-second}
 use Rattle.pair.proofs.paired.Statement.{statement}
 use Rattle.pair.proofs.paired.Tie as tie
 
--- an image that was accepted with `n` steps
-first : (c : tie.After-c2)
-    → let s = c .before .before .before .before .before .before .before .before .args .first .now in
-    Taken s × (c .c2 .given .0 .0 ≡ length (stepsOf s))
+-- an image that was accepted
+first : (c : tie.After-c2) → Taken (c .before .before .before .before .before .before .before .before .args .first .now)
 first c =
     let k = c .before .before in
     let s = k .before .before .before .before .before .before .args .first .now in
     let y = answer-yes s (k .check .ensures) (c .c2 .given .1) in
-    let t = taken-is s (y .list) (y .is) in
-    (t .0, sym (ap length (t .1) ∙ y .count))
+    taken-is s (y .list) (y .is) .0
 
-second : (c : tie.After-d2)
-    → let s = c .before .before .before .before .before .before .before .before .before .before .before .before .args .second .now in
-    Taken s × (c .d2 .given .0 .0 ≡ length (stepsOf s))
+second : (c : tie.After-d2) → Taken (c .before .before .before .before .before .before .before .before .before .before .before .before .args .second .now)
 second c =
     let k = c .before .before in
     let s = k .before .before .before .before .before .before .before .before .before .before .args .second .now in
     let y = answer-yes s (k .check2 .ensures) (c .d2 .given .1) in
-    let t = taken-is s (y .list) (y .is) in
-    (t .0, sym (ap length (t .1) ∙ y .count))
+    taken-is s (y .list) (y .is) .0
 
 check-requires : tie.Need-check-requires
 check-requires c κs = search needs
@@ -54,18 +46,19 @@ on-side-requires-2 c κs = search needs
 enum-known-d-2 : tie.Need-enum-known-d-2
 enum-known-d-2 c = search needs
 
-cast-of-accepted : tie.Need-cast-of-accepted
-cast-of-accepted c = search needs
+cast-all : tie.Need-cast-all
+cast-all c = search needs
 
-cast-of-accepted-2 : tie.Need-cast-of-accepted-2
-cast-of-accepted-2 c = search needs
+cast-all-2 : tie.Need-cast-all-2
+cast-all-2 c = search needs
 
-of-accepted-requires : tie.Need-of-accepted-requires
-of-accepted-requires c κs =
+add-all : tie.Need-add-all
+add-all c = search needs
+
+counted-requires : tie.Need-counted-requires
+counted-requires c κs =
     let d = c .before .before .before .before in
-    let f = first (d .before .before .before .before) in
-    let s = second d in
-    ((f .0, s .0), (f .1, s .1))
+    (first (d .before .before .before .before), second d)
 
 returns : tie.Need-returns
 returns c =
@@ -78,7 +71,7 @@ returns-2 c =
     let k = c .before .before .before .before in
     let f = k .before .before in
     let a = f .before .before .before .before .before .before .before .before .args in
-    promise-second (first f .0) (answer-no (a .second .now) (k .check2 .ensures) (c .before .before .d .given .1)) (c .on-side2 .ensures)
+    promise-second (first f) (answer-no (a .second .now) (k .check2 .ensures) (c .before .before .d .given .1)) (c .on-side2 .ensures)
 
 same-length : tie.Need-same-length
 same-length c = search needs
@@ -104,9 +97,10 @@ paired-spec =
     enum-known-d
     on-side-requires-2
     enum-known-d-2
-    cast-of-accepted
-    cast-of-accepted-2
-    of-accepted-requires
+    cast-all
+    cast-all-2
+    add-all
+    counted-requires
     returns
     returns-2
     same-length

@@ -23,7 +23,7 @@ listed c =
 -- the front of the stored steps is the result
 front : (c : tie.After-merge)
     → let a = c .before .before .before .before .before .before .before .args in
-    take (c .merge .result) (c .merge .last .1 .1 .1 .0) ≡ resultOf (a .op) (stepsOf (a .first .now)) (stepsOf (a .second .now))
+    take (c .merge .result) (c .merge .last .1 .1 .1 .1 .0) ≡ resultOf (a .op) (stepsOf (a .first .now)) (stepsOf (a .second .now))
 front c =
     let p = c .before .before .before .before .before .before .before in
     stored-front (p .args .op) (p .args .first .now) (p .args .second .now) (p .args .steps .now) (p .args .work .now) (p .args .out .now) (p .pre .one)

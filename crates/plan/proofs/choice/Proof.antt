@@ -2,7 +2,7 @@
 -- have them.
 -- Assumes nothing.
 use mathlib.Core.Path.{_≡_}
-use Prim.Native.Nat.{ℕ, _+_, _*_, _≤_}
+use Prim.Native.Nat.{ℕ, _+_, _≤_}
 use native.Mathlib.Omega.{arith}
 use borrow.Author.Needs.{needs}
 use lib.ListN.{length, getD}
@@ -20,7 +20,8 @@ start c = c .before .before .before .before
 listed : (c : tie.After-row-at) → Listed (start c .args .list .now)
 listed c = start c .pre .0 .listed
 
-codes-is : (c : tie.After-row-at) → getD (start c .args .work .now) (2 * start c .args .i + 1) 0 ≡ codesAt (start c .args .list .now) (start c .args .i)
+codes-is : (c : tie.After-row-at)
+    → getD (start c .args .work .now) (length (start c .args .list .now) + start c .args .i) 0 ≡ codesAt (start c .args .list .now) (start c .args .i)
 codes-is c = start c .pre .0 .codes (start c .args .i) (omega arith) (start c .pre .1)
 
 few : (c : tie.After-row-at) {r : ℕ} → r ≤ length (start c .args .list .now) → r ≤ mostSteps
@@ -31,9 +32,6 @@ mul-codes c = search needs
 
 add-codes : tie.Need-add-codes
 add-codes c = search needs
-
-mul-codes-2 : tie.Need-mul-codes-2
-mul-codes-2 c = search needs
 
 shared-slice-read-codes : tie.Need-shared-slice-read-codes
 shared-slice-read-codes c = search needs
@@ -92,9 +90,8 @@ pub choice-spec : {M : Type 1} → statement M
 choice-spec =
     tie.close
     (tie.spec
-    mul-codes
     add-codes
-    mul-codes-2
+    mul-codes
     shared-slice-read-codes
     row-at-requires
     codes-end-requires

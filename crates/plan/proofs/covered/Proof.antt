@@ -1,6 +1,6 @@
 -- `plan::covered` meets its contract. The loop is a scan that passes many ranks at a look at the last of them. Assumes nothing.
 use mathlib.Core.Path.{_≡_}
-use Prim.Native.Nat.{_+_, _-_, _*_, _≤_}
+use Prim.Native.Nat.{_+_, _-_, _≤_}
 use native.Mathlib.Omega.{arith}
 use lib.ListN.{length, getD}
 use Rattle.rules.specs.Limits.Laws.{most-counted}
@@ -20,7 +20,7 @@ abbrev μ-loop : tie.MeasureT-loop
 -- what lies ahead of the last rank of a look
 word : (c : tie.In-loop Inv-loop μ-loop)
     → let a = c .before .before .args in
-    getD (a .work .now) (2 * (c .before .loop .j + 15)) 0 ≡ reachAt (a .list .now) (c .before .loop .j + 15)
+    getD (a .work .now) (c .before .loop .j + 15) 0 ≡ reachAt (a .list .now) (c .before .loop .j + 15)
 word c =
     c .before .before .pre .0 .reach (c .before .loop .j + 15) (omega (arith, c .before .loop .inv .after)) (omega (arith, c .loop-test .taken))
 
@@ -41,9 +41,6 @@ add-if1 c = omega (arith, c .before .loop .inv .within, c .before .before .pre .
 
 mul-if1 : tie.Need-mul-if1 Inv-loop μ-loop
 mul-if1 c = omega (arith, c .before .loop .inv .within, c .before .before .pre .0 .listed .few, most-counted)
-
-mul-if1-2 : tie.Need-mul-if1-2 Inv-loop μ-loop
-mul-if1-2 c = omega (arith, c .before .loop .inv .within, c .before .before .pre .0 .listed .few, most-counted)
 
 shared-slice-read-if1 : tie.Need-shared-slice-read-if1 Inv-loop μ-loop
 shared-slice-read-if1 c = omega (arith, c .before .loop-test .taken, c .before .before .before .pre .0 .room)
@@ -81,7 +78,6 @@ covered-spec =
     sub-if1
     add-if1
     mul-if1
-    mul-if1-2
     shared-slice-read-if1
     returns
     add-j-2

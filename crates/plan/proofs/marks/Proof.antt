@@ -24,9 +24,6 @@ choice-requires c κs = (c .before .before .loop .inv .ready, c .before .loop-te
 mul-work : tie.Need-mul-work Inv-loop μ-loop
 mul-work c = search needs
 
-mul-work-2 : tie.Need-mul-work-2 Inv-loop μ-loop
-mul-work-2 c = search needs
-
 slice-write-work : tie.Need-slice-write-work Inv-loop μ-loop
 slice-write-work c = search needs
 
@@ -57,7 +54,6 @@ marks-spec =
     loop-holds
     choice-requires
     mul-work
-    mul-work-2
     slice-write-work
     cast-i
     add-blocks

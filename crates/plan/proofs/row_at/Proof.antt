@@ -1,7 +1,6 @@
 -- `plan::row_at` meets its contract: the work area has the reach of rank `i`, which is not below the step before the rank, and fits.
 -- Assumes nothing.
 use mathlib.Core.Path.{_≡_}
-use Prim.Native.Nat.{_*_}
 use native.Mathlib.Omega.{arith}
 use borrow.Author.Needs.{needs}
 use lib.ListN.{getD}
@@ -10,7 +9,7 @@ use Rattle.plan.proofs.Ranks.{Fits, fits}
 use Rattle.plan.proofs.row_at.Statement.{statement}
 use Rattle.plan.proofs.row_at.Tie as tie
 
-reach : (c : tie.Start) → getD (c .args .work .now) (2 * c .args .i) 0 ≡ reachAt (c .args .list .now) (c .args .i)
+reach : (c : tie.Start) → getD (c .args .work .now) (c .args .i) 0 ≡ reachAt (c .args .list .now) (c .args .i)
 reach c = c .pre .0 .reach (c .args .i) (omega arith) (c .pre .1)
 
 fits-here : (c : tie.Start) → Fits (c .args .list .now) (c .args .i)
@@ -18,9 +17,6 @@ fits-here c = fits (c .pre .0 .listed) (c .args .i) (omega arith)
 
 mul-row-size : tie.Need-mul-row-size
 mul-row-size c = search needs
-
-mul-row-size-2 : tie.Need-mul-row-size-2
-mul-row-size-2 c = search needs
 
 shared-slice-read-row-size : tie.Need-shared-slice-read-row-size
 shared-slice-read-row-size c = search needs
@@ -44,7 +40,6 @@ row-at-spec =
     tie.close
     (tie.spec
     mul-row-size
-    mul-row-size-2
     shared-slice-read-row-size
     past-at-requires
     sub-row-size

@@ -23,7 +23,7 @@ abbrev μ-loop : tie.MeasureT-loop
 abbrev start : tie.In-loop Inv-loop μ-loop → tie.Start Inv-loop μ-loop
 start c = c .before .before .before .before .before .before
 
-word : (c : tie.In-loop Inv-loop μ-loop) → getD (start c .args .work .now) (2 * c .before .loop .j) 0 ≡ reachAt (start c .args .list .now) (c .before .loop .j)
+word : (c : tie.In-loop Inv-loop μ-loop) → getD (start c .args .work .now) (c .before .loop .j) 0 ≡ reachAt (start c .args .list .now) (c .before .loop .j)
 word c = start c .pre .0 .reach (c .before .loop .j) (omega (arith, c .before .loop .inv .after)) (c .loop-test .taken)
 
 top : (c : tie.In-loop Inv-loop μ-loop) → c .before .before .before .past-at .result ≡ past (start c .args .list .now) (start c .args .i)
@@ -46,9 +46,6 @@ loop-holds c = scan-as (c .covered .ensures) (λ u h. omega (arith, h, c .before
 
 mul-if1 : tie.Need-mul-if1 Inv-loop μ-loop
 mul-if1 c = search needs
-
-mul-if1-2 : tie.Need-mul-if1-2 Inv-loop μ-loop
-mul-if1-2 c = search needs
 
 shared-slice-read-if1 : tie.Need-shared-slice-read-if1 Inv-loop μ-loop
 shared-slice-read-if1 c = search needs
@@ -84,7 +81,6 @@ row-end-spec =
     covered-requires
     loop-holds
     mul-if1
-    mul-if1-2
     shared-slice-read-if1
     returns
     add-j

@@ -1,18 +1,21 @@
 -- `row::steps` meets its contract: the steps of the bytes from i on are still to be stored. Assumes nothing.
-use mathlib.Core.Path.{ap, _∙_}
+use mathlib.Core.Path.{refl, ap, _∙_}
 use Prim.Native.Nat.{_-_}
 use native.Mathlib.Omega.{arith}
+use borrow.Author.Needs.{needs}
 use lib.ListN.{length}
 use lib.Seq.{length-sets}
-use Rattle.row.proofs.Putting.{Putting, putting-start, putting-room, putting-turn, putting-room-rest, putting-end}
+use Rattle.row.specs.Row.{bitsFrom}
+use Rattle.row.specs.Groups.{placesFrom, allPlaces}
+use Rattle.row.proofs.Putting.{Room, Putting, putting-start, putting-room, putting-turn, putting-room-rest, putting-end}
 use Rattle.row.proofs.steps.Statement.{statement}
 use Rattle.row.proofs.steps.Tie as tie
 
 abbrev Inv-loop : tie.InvT-loop
-Inv-loop part from out₀ at i₀ k₀ out i k = Putting part from out₀ at out i k
+Inv-loop part from out₀ at places i₀ k₀ out i k = Putting part from out₀ at out i k
 
 abbrev μ-loop : tie.MeasureT-loop
-μ-loop part from out₀ at i₀ k₀ out i k = length part - i
+μ-loop part from out₀ at places i₀ k₀ out i k = length part - i
 
 loop-holds : tie.Need-loop-holds Inv-loop μ-loop
 loop-holds c =
@@ -22,19 +25,27 @@ loop-holds c =
 add-loop : tie.Need-add-loop Inv-loop μ-loop
 add-loop c = omega arith
 
+slice-aggregate-put-by-table : tie.Need-slice-aggregate-put-by-table Inv-loop μ-loop
+slice-aggregate-put-by-table c = search needs
+
 word-at-requires : tie.Need-word-at-requires Inv-loop μ-loop
 word-at-requires c κs = omega arith
 
-mul-put-word : tie.Need-mul-put-word Inv-loop μ-loop
-mul-put-word c = omega arith
+mul-put-by-table : tie.Need-mul-put-by-table Inv-loop μ-loop
+mul-put-by-table c = omega arith
 
-add-put-word : tie.Need-add-put-word Inv-loop μ-loop
-add-put-word c = omega arith
+add-put-by-table : tie.Need-add-put-by-table Inv-loop μ-loop
+add-put-by-table c = omega arith
 
-put-word-requires : tie.Need-put-word-requires Inv-loop μ-loop
-put-word-requires c κs =
+room : (c : tie.After-put-by-table-arg Inv-loop μ-loop)
+    → Room (c .before .before .before .before .before .before .before .args .from) (c .before .before .before .before .loop .i) (c .before .word-at .result) (c .before .before .before .before .loop .out) (c .before .before .before .before .loop .k)
+room c =
     let w = c .before .word-at in
-    putting-room (c .before .before .before .loop .inv) (λ j. c .before .before .before .before .before .shared-slice-known .given j .fits) (w .result) (omega arith) (w .ensures) (c .before .before .before .before .before .before .pre .0)
+    putting-room (c .before .before .before .before .loop .inv) (λ j. c .before .before .before .before .before .before .shared-slice-known .given j .fits) (w .result) (omega arith) (w .ensures) (c .before .before .before .before .before .before .before .pre .0)
+
+put-by-table-requires : tie.Need-put-by-table-requires Inv-loop μ-loop
+unfolding allPlaces placesFrom bitsFrom
+put-by-table-requires c κs = (refl, room c)
 
 add-i : tie.Need-add-i Inv-loop μ-loop
 add-i c = omega arith
@@ -45,7 +56,7 @@ loop-less c = omega arith
 loop-again : tie.Need-loop-again Inv-loop μ-loop
 loop-again c =
     let w = c .before .before .before .before .word-at in
-    putting-turn (c .before .before .before .before .before .before .loop .inv) (λ j. c .before .before .before .before .before .before .before .before .shared-slice-known .given j .fits) (w .result) (omega arith) (w .ensures) (c .before .before .put-word .ensures)
+    putting-turn (c .before .before .before .before .before .before .before .loop .inv) (λ j. c .before .before .before .before .before .before .before .before .before .shared-slice-known .given j .fits) (w .result) (omega arith) (w .ensures) (c .before .before .put-by-table .ensures)
 
 last-word-requires : tie.Need-last-word-requires Inv-loop μ-loop
 last-word-requires c κs = (c .before .loop .inv .few, omega arith)
@@ -77,10 +88,11 @@ steps-spec =
     μ-loop
     loop-holds
     add-loop
+    slice-aggregate-put-by-table
     word-at-requires
-    mul-put-word
-    add-put-word
-    put-word-requires
+    mul-put-by-table
+    add-put-by-table
+    put-by-table-requires
     add-i
     loop-less
     loop-again

@@ -1,7 +1,7 @@
 -- `write::put_blocks` meets its contract. The invariant: the entries and the parts of the blocks that begin before rank `i` are stored.
 -- Assumes nothing.
 use mathlib.Core.List.{List}
-use Prim.Native.Nat.{_-_, _*_}
+use Prim.Native.Nat.{_-_}
 use native.Mathlib.Omega.{arith}
 use lib.ListN.{length}
 use Rattle.cut.specs.Cut.{Block}
@@ -33,14 +33,11 @@ loop-holds c =
 mul-word : tie.Need-mul-word Inv-loop μ-loop
 mul-word c = omega arith
 
-mul-word-2 : tie.Need-mul-word-2 Inv-loop μ-loop
-mul-word-2 c = omega arith
-
 shared-slice-read-word : tie.Need-shared-slice-read-word Inv-loop μ-loop
 shared-slice-read-word c = omega arith
 
 cast-word : tie.Need-cast-word Inv-loop μ-loop
-cast-word c = omega (arith, c .shared-slice-known3 .given (2 * c .before .before .loop .i))
+cast-word c = omega (arith, c .shared-slice-known3 .given (c .before .before .loop .i))
 
 put-block-requires : tie.Need-put-block-requires Inv-loop μ-loop
 put-block-requires c κs =
@@ -77,7 +74,6 @@ put-blocks-spec =
     add-base-2
     loop-holds
     mul-word
-    mul-word-2
     shared-slice-read-word
     cast-word
     put-block-requires
