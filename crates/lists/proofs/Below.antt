@@ -8,10 +8,8 @@ use native.Mathlib.Decide.{decLe}
 use borrow.Author.Tests.{le-leb, lt-leb}
 use lib.ListN.{length, getD, drop}
 use Rattle.lists.specs.Rising.{Rising, beyond}
-use Rattle.lists.specs.Members.{has}
 use Rattle.lists.specs.Below.{below}
 use Rattle.lists.proofs.Rising.{rising-beyond}
-use Rattle.lists.proofs.Members.{has-past}
 
 pub below-nil : (x : ℕ) → below [] x ≡ 0
 unfolding below
@@ -78,25 +76,6 @@ pub below-reach : (xs : List ℕ) (x : ℕ) → below xs x < length xs → x ≤
 below-reach [] x h = absurd (omega arith)
 below-reach (y ∷ ys) x h =
     reach x y (λ g. rw (below-here y ys x g) g) (λ g. rw (below-past y ys x g) (below-reach ys x (omega (arith, below-past y ys x g))))
-
--- ---- what is left from that number on: it reaches the bound, has every member that does, and counts on from there
-
-pub rising-drop-below : (o : ℕ) (xs : List ℕ) (x : ℕ) → Rising o xs → Rising x (drop (below xs x) xs)
-rising-drop-below o [] x u = rw (below-nil x) tt
-rising-drop-below o (y ∷ ys) x u =
-    reach x y (λ g. rw (below-here y ys x g) (g, u .1)) (λ g. rw (below-past y ys x g) (rising-drop-below (suc y) ys x (u .1)))
-
-pub has-drop-below : (z : ℕ) (xs : List ℕ) (x : ℕ) → x ≤ z → has z (drop (below xs x) xs) ≡ has z xs
-has-drop-below z [] x h = rw (below-nil x)
-has-drop-below z (y ∷ ys) x h =
-    reach x y (λ g. rw (below-here y ys x g))
-    (λ g. rw (below-past y ys x g, has-past z y ys (λ e. omega arith)) (has-drop-below z ys x h))
-
-pub below-split : (xs : List ℕ) (x y : ℕ) → x ≤ y → below xs y ≡ below xs x + below (drop (below xs x) xs) y
-below-split [] x y h = rw (below-nil x) (omega arith)
-below-split (z ∷ zs) x y h =
-    reach x z (λ g. rw (below-here z zs x g) (omega arith))
-    (λ g. rw (below-past z zs x g, below-past z zs y (omega arith)) (omega (arith, below-split zs x y h)))
 
 -- ---- from any rank on: up to the bound, and past it
 

@@ -2,11 +2,9 @@
 -- Assumes nothing.
 use mathlib.Core.Path.{_≡_, refl}
 use mathlib.Core.List.{List, [], _∷_}
-use Prim.Native.Nat.{ℕ, _/_, _%_, _^_, _≤_, _<_}
+use Prim.Native.Nat.{ℕ, _/_, _%_, _≤_, _<_}
 use native.Mathlib.Omega.{arith}
 use lib.ListN.{length, getD}
-use Rattle.rules.specs.Limits.Laws.{most-counted}
-use Rattle.rules.specs.Limits.{mostSteps}
 use Rattle.cut.specs.Cut.{number, Block, Cuts, Best}
 use Rattle.cut.proofs.Blocks.{number-le}
 use Rattle.cut.proofs.Cuts.{cuts-le, cuts-lt}
@@ -28,9 +26,6 @@ word-upto b = omega (arith, number-le (b .kind))
 
 pub word-number : (b : Block) → wordOf b % 2 ≡ number (b .kind)
 word-number b = omega (arith, number-le (b .kind))
-
-pub word-fits : (b : Block) → b .upto ≤ mostSteps → wordOf b < 2 ^ 32
-word-fits b h = omega (arith, most-counted, number-le (b .kind))
 
 -- ---- block by block: what is left after the first block of the cut `bs` from rank `i` up to rank `n`, which the word at `i` says
 

@@ -1,17 +1,18 @@
--- Laws of groups: the table has the places of each group's ones, what is stored for a group, for all groups of a word, and what is put back.
+-- Laws of groups: the table has the places and the number of each group's ones, what is stored for a group, for one run after the other and so
+-- for all groups of a word, and what is put back.
 -- Assumes nothing.
 use mathlib.Core.Path.{_≡_, refl, sym, ap, _∙_, subst}
 use mathlib.Core.List.{List, [], _∷_, _++_, map, map-append, append-assoc}
 use Prim.Native.Nat.{ℕ, zero, suc, _+_, _-_, _*_, _/_, _%_, _^_, _≤_, _<_}
 use native.Mathlib.Omega.{arith}
 use lib.ListN.{length, getD, take, drop, length-map, length-drop, length-append}
-use lib.Seq.{sets, take-append-le, drop-append-add, take-all}
+use lib.Seq.{sets, take-append-le, drop-append-add, getD-append-add, take-all}
 use Rattle.lists.proofs.Parts.{drop-one}
 use Rattle.lists.proofs.Stores.{sets-append}
 use Rattle.row.specs.Row.{bitsFrom}
 use Rattle.row.specs.Words.{wordBits}
-use Rattle.row.specs.Groups.{groupBits, groupValues, fourPlaces, otherPlaces, placesOf, placesFrom, allPlaces, Loose}
-use Rattle.row.proofs.Bits.{bits-none, bits-moved, bits-join, length-bits-most, length-bits-moved, length-bits-wide}
+use Rattle.row.specs.Groups.{groupBits, groupValues, fourPlaces, otherPlaces, placesOf, placesFrom, countsFrom, allPlaces, Loose}
+use Rattle.row.proofs.Bits.{bits-none, bits-moved, bits-join, length-bits-most, length-bits-moved}
 use Rattle.row.proofs.Stores.{getD-sets-after, sets-over, sets-same}
 
 -- ---- the table
@@ -26,26 +27,51 @@ length-places-of v =
       length-bits-most groupBits 0 v,
     )
 
-places-at : (k v m : ℕ) → m < k → take groupBits (drop (groupBits * m) (placesFrom k v)) ≡ placesOf (v + m)
+places-at : (k v m : ℕ) (more : List ℕ) → m < k → take groupBits (drop (groupBits * m) (placesFrom k v ++ more)) ≡ placesOf (v + m)
 unfolding placesFrom
-places-at zero v m h = absurd (omega arith)
-places-at (suc k) v zero h =
+places-at zero v m more h = absurd (omega arith)
+places-at (suc k) v zero more h =
     let z : v ≡ v + 0 = omega arith in
-    take-append-le groupBits (placesOf v) (placesFrom k (suc v)) (omega (arith, length-places-of v))
+    ap (take groupBits) (append-assoc (placesOf v) (placesFrom k (suc v)) more)
+    ∙ take-append-le groupBits (placesOf v) (placesFrom k (suc v) ++ more) (omega (arith, length-places-of v))
     ∙ take-all groupBits (placesOf v) (omega (arith, length-places-of v))
     ∙ ap placesOf z
-places-at (suc k) v (suc m) h =
+places-at (suc k) v (suc m) more h =
     let z : groupBits * suc m ≡ length (placesOf v) + groupBits * m = omega (arith, length-places-of v) in
     let y : suc v + m ≡ v + suc m = omega arith in
-    ap (λ (n : ℕ). take groupBits (drop n (placesOf v ++ placesFrom k (suc v)))) z
-    ∙ ap (take groupBits) (drop-append-add (placesOf v) (placesFrom k (suc v)) (groupBits * m))
-    ∙ places-at k (suc v) m (omega arith)
+    let rest : List ℕ = placesFrom k (suc v) ++ more in
+    ap (λ (l : List ℕ). take groupBits (drop (groupBits * suc m) l)) (append-assoc (placesOf v) (placesFrom k (suc v)) more)
+    ∙ ap (λ (n : ℕ). take groupBits (drop n (placesOf v ++ rest))) z
+    ∙ ap (take groupBits) (drop-append-add (placesOf v) rest (groupBits * m))
+    ∙ places-at k (suc v) m more (omega arith)
     ∙ ap placesOf y
 
 length-places : (k v : ℕ) → length (placesFrom k v) ≡ groupBits * k
 unfolding placesFrom
 length-places zero v = refl
 length-places (suc k) v = omega (arith, length-append (placesOf v) (placesFrom k (suc v)), length-places-of v, length-places k (suc v))
+
+counts-at : (k v m : ℕ) → m < k → getD (countsFrom k v) m 0 ≡ length (bitsFrom groupBits 0 (v + m))
+unfolding countsFrom
+counts-at zero v m h = absurd (omega arith)
+counts-at (suc k) v zero h =
+    let z : v ≡ v + 0 = omega arith in
+    ap (λ (u : ℕ). length (bitsFrom groupBits 0 u)) z
+counts-at (suc k) v (suc m) h =
+    let y : suc v + m ≡ v + suc m = omega arith in
+    counts-at k (suc v) m (omega arith) ∙ ap (λ (u : ℕ). length (bitsFrom groupBits 0 u)) y
+
+length-counts : (k v : ℕ) → length (countsFrom k v) ≡ k
+unfolding countsFrom
+length-counts zero v = refl
+length-counts (suc k) v = ap suc (length-counts k (suc v))
+
+pub table-length : (s : List ℕ) → s ≡ allPlaces → length s ≡ groupBits * groupValues + groupValues
+unfolding allPlaces
+table-length s e =
+    ap length e
+    ∙ length-append (placesFrom groupValues 0) (countsFrom groupValues 0)
+    ∙ omega (arith, length-places groupValues 0, length-counts groupValues 0)
 
 four : (s : List ℕ) (i : ℕ) → i + 4 ≤ length s → take 4 (drop i s) ≡ getD s i 0 ∷ getD s (i + 1) 0 ∷ getD s (i + 2) 0 ∷ getD s (i + 3) 0 ∷ []
 four s i h =
@@ -64,14 +90,26 @@ table-four : (s : List ℕ) (v : ℕ) → s ≡ allPlaces → v < groupValues
 unfolding allPlaces
 table-four s v e h =
     let z : 0 + v ≡ v = omega arith in
-    sym (four s (groupBits * v) (omega (arith, ap length e, length-places groupValues 0)))
+    sym (four s (groupBits * v) (omega (arith, table-length s e)))
     ∙ ap (λ (l : List ℕ). take groupBits (drop (groupBits * v) l)) e
-    ∙ places-at groupValues 0 v h
+    ∙ places-at groupValues 0 v (countsFrom groupValues 0) h
     ∙ ap placesOf z
 
-pub table-length : (s : List ℕ) → s ≡ allPlaces → length s ≡ groupBits * groupValues
+-- how many ones it says that the group `v` has, wherever its first bit stands
+pub table-count : (s : List ℕ) (v o n : ℕ) → s ≡ allPlaces → v < groupValues → n ≡ getD s (groupBits * groupValues + v) 0
+    → n ≡ length (bitsFrom groupBits o v)
 unfolding allPlaces
-table-length s e = ap length e ∙ length-places groupValues 0
+table-count s v o n e h q =
+    let places : List ℕ = placesFrom groupValues 0 in
+    let y : groupBits * groupValues + v ≡ length places + v = omega (arith, length-places groupValues 0) in
+    let z : 0 + v ≡ v = omega arith in
+    q
+    ∙ ap (λ (l : List ℕ). getD l (groupBits * groupValues + v) 0) e
+    ∙ ap (λ (i : ℕ). getD (places ++ countsFrom groupValues 0) i 0) y
+    ∙ getD-append-add places (countsFrom groupValues 0) v 0
+    ∙ counts-at groupValues 0 v h
+    ∙ ap (λ (u : ℕ). length (bitsFrom groupBits 0 u)) z
+    ∙ sym (length-bits-moved groupBits o v)
 
 -- ---- one group
 
@@ -109,8 +147,43 @@ group-loose s v o at l w x y z e h ew ex ey ez =
     in
     subst (Loose l at (bitsFrom groupBits o v)) (sym runs) (loose-junk l at (bitsFrom groupBits o v) (junk o v) (length-junk o v))
 
-pub group-ones : (o v n : ℕ) → v < groupValues → n ≡ length (bitsFrom wordBits 0 v) → n ≡ length (bitsFrom groupBits o v)
-group-ones o v n h e = e ∙ length-bits-wide wordBits groupBits 0 v (omega arith) h ∙ sym (length-bits-moved groupBits o v)
+-- ---- runs that leave four places loose, one after the other
+
+-- of `vs`, `ws` are left, which go to `k`
+pub record Loosely (out₀ : List ℕ) (at : ℕ) (vs out : List ℕ) (k : ℕ) (ws : List ℕ) : Type 0 where
+  pub same : length out ≡ length out₀
+  pub place : k + length ws ≡ at + length vs
+  pub stores : (rest : List ℕ) → groupBits ≤ length rest → sets out k (ws ++ rest) ≡ sets out₀ at (vs ++ rest)
+
+pub loosely-start : (out : List ℕ) (at : ℕ) (vs ws : List ℕ) → ws ≡ vs → Loosely out at vs out at ws
+loosely-start out at vs ws e = record {
+  same = refl;
+  place = ap (λ (l : List ℕ). at + length l) e;
+  stores = λ rest h. ap (λ (l : List ℕ). sets out at (l ++ rest)) e;
+}
+
+module _ {out₀ : List ℕ} {at : ℕ} {vs out : List ℕ} {k : ℕ} {ws : List ℕ} (s : Loosely out₀ at vs out k ws) where
+  -- one run more
+  pub loosely-run : (us rest : List ℕ) {out′ : List ℕ} {k′ : ℕ} → ws ≡ us ++ rest → length out′ ≡ length out → k′ ≡ k + length us → Loose out k us out′
+      → Loosely out₀ at vs out′ k′ rest
+  loosely-run us rest {out′} {k′} e n ek f = record {
+    same = n ∙ s .same;
+    place = omega (arith, s .place, ap length e ∙ length-append us rest);
+    stores = λ more h.
+        ap (λ (p : ℕ). sets out′ p (rest ++ more)) ek
+        ∙ f (rest ++ more) (omega (arith, length-append rest more))
+        ∙ ap (sets out k) (sym (append-assoc us rest more) ∙ ap (λ (t : List ℕ). t ++ more) (sym e))
+        ∙ s .stores more h;
+  }
+
+  pub loosely-end : ws ≡ [] → (k ≡ at + length vs) × Loose out₀ at vs out
+  loosely-end e =
+      let q : k ≡ at + length vs = omega (arith, s .place, ap length e) in
+      (q, λ rest h. ap (λ (p : ℕ). sets out p rest) (sym q) ∙ ap (λ (t : List ℕ). sets out k (t ++ rest)) (sym e) ∙ s .stores rest h)
+
+-- a run that leaves none loose
+pub exact-loose : (l : List ℕ) (at : ℕ) (vs l′ : List ℕ) → l′ ≡ sets l at vs → Loose l at vs l′
+exact-loose l at vs l′ e rest h = ap (λ (r : List ℕ). sets r (at + length vs) rest) e ∙ sym (sets-append l at vs rest)
 
 -- ---- all groups of a word
 
@@ -118,10 +191,7 @@ group-ones o v n h e = e ∙ length-bits-wide wordBits groupBits 0 v (omega arit
 pub record Grouping (word o : ℕ) (out₀ : List ℕ) (at : ℕ) (out : List ℕ) (bits j k : ℕ) : Type 0 where
   pub few : j ≤ wordBits
   pub whole : j % groupBits ≡ 0
-  pub same : length out ≡ length out₀
-  pub place : k + length (bitsFrom (wordBits - j) (o + j) bits) ≡ at + length (bitsFrom wordBits o word)
-  pub stores : (rest : List ℕ) → groupBits ≤ length rest
-      → sets out k (bitsFrom (wordBits - j) (o + j) bits ++ rest) ≡ sets out₀ at (bitsFrom wordBits o word ++ rest)
+  pub loosely : Loosely out₀ at (bitsFrom wordBits o word) out k (bitsFrom (wordBits - j) (o + j) bits)
 
 pub grouping-start : (word o : ℕ) (out : List ℕ) (at : ℕ) → Grouping word o out at out word 0 at
 grouping-start word o out at =
@@ -129,14 +199,12 @@ grouping-start word o out at =
     record {
       few = omega arith;
       whole = refl;
-      same = refl;
-      place = ap (λ (p : ℕ). at + length (bitsFrom wordBits p word)) z;
-      stores = λ rest h. ap (λ (p : ℕ). sets out at (bitsFrom wordBits p word ++ rest)) z;
+      loosely = loosely-start out at (bitsFrom wordBits o word) (bitsFrom wordBits (o + 0) word) (ap (λ (p : ℕ). bitsFrom wordBits p word) z);
     }
 
 module _ {word o : ℕ} {out₀ : List ℕ} {at : ℕ} {out : List ℕ} {bits j k : ℕ} (g : Grouping word o out₀ at out bits j k) where
   pub grouping-room : k ≤ at + length (bitsFrom wordBits o word)
-  grouping-room = omega (arith, g .place)
+  grouping-room = omega (arith, g .loosely .place)
 
   split : j < wordBits
       → bitsFrom (wordBits - j) (o + j) bits
@@ -158,31 +226,17 @@ module _ {word o : ℕ} {out₀ : List ℕ} {at : ℕ} {out : List ℕ} {bits j 
       → Grouping word o out₀ at out′ (bits / groupValues) (j + groupBits) k′
   grouping-turn {out′} {k′} h n ek f =
       let us : List ℕ = bitsFrom groupBits (o + j) (bits % groupValues) in
-      let vs : List ℕ = bitsFrom (wordBits - (j + groupBits)) (o + (j + groupBits)) (bits / groupValues) in
+      let rest : List ℕ = bitsFrom (wordBits - (j + groupBits)) (o + (j + groupBits)) (bits / groupValues) in
       record {
         few = omega (arith, g .whole);
         whole = omega (arith, g .whole);
-        same = n ∙ g .same;
-        place = omega (arith, g .place, ap length (split h) ∙ length-append us vs);
-        stores = λ rest l.
-            ap (λ (p : ℕ). sets out′ p (vs ++ rest)) ek
-            ∙ f (vs ++ rest) (omega (arith, length-append vs rest))
-            ∙ ap (sets out k) (sym (append-assoc us vs rest) ∙ ap (λ (t : List ℕ). t ++ rest) (sym (split h)))
-            ∙ g .stores rest l;
+        loosely = loosely-run (g .loosely) us rest (split h) n ek f;
       }
-
-  none : wordBits ≤ j → bitsFrom (wordBits - j) (o + j) bits ≡ []
-  none h =
-      let q : wordBits - j ≡ 0 = omega arith in
-      ap (λ (n : ℕ). bitsFrom n (o + j) bits) q ∙ bits-none (o + j) bits
 
   pub grouping-end : wordBits ≤ j → (k ≡ at + length (bitsFrom wordBits o word)) × Loose out₀ at (bitsFrom wordBits o word) out
   grouping-end h =
-      let e : k ≡ at + length (bitsFrom wordBits o word) = omega (arith, g .place, ap length (none h)) in (
-        e,
-        λ rest l.
-            ap (λ (p : ℕ). sets out p rest) (sym e) ∙ ap (λ (t : List ℕ). sets out k (t ++ rest)) (sym (none h)) ∙ g .stores rest l,
-      )
+      let q : wordBits - j ≡ 0 = omega arith in
+      loosely-end (g .loosely) (ap (λ (n : ℕ). bitsFrom n (o + j) bits) q ∙ bits-none (o + j) bits)
 
 -- ---- what is put back
 

@@ -1,8 +1,8 @@
 -- Laws of putting the steps of a row into a buffer: the ones of a word, the lowest first, each of which is then cleared; all of a word without
--- a zero; and word by word.
+-- a zero; and word by word, where nothing else changes or where four places are left loose.
 -- Assumes nothing.
 use mathlib.Core.Path.{_≡_, refl, sym, ap, _∙_, subst}
-use mathlib.Core.List.{List, [], append-nil}
+use mathlib.Core.List.{List, [], _++_, append-nil}
 use Prim.Native.Nat.{ℕ, _+_, _-_, _*_, _^_, _≤_, _<_}
 use native.Mathlib.Omega.{arith}
 use lib.Bits.{bitAnd, and-le-r}
@@ -16,9 +16,11 @@ use Rattle.lists.proofs.Stores.{Storing, storing-start, storing-same, storing-r
 use Rattle.rules.specs.Numbers.{little}
 use Rattle.row.specs.Row.{byteBits, bitsFrom, rowSteps}
 use Rattle.row.specs.Words.{wordBytes, wordBits}
+use Rattle.row.specs.Groups.{groupBits, Loose}
 use Rattle.row.proofs.Bits.{bits-zero, bits-lowest, lowest-below, rising-bits, beyond-rest-bits, beyond-bits, length-full}
 use Rattle.row.proofs.Row.{rowLeft, row-start, beyond-row-most}
 use Rattle.row.proofs.Words.{row-word, row-rest}
+use Rattle.row.proofs.Grouping.{Loosely, loosely-start, loosely-run, loosely-end, exact-loose}
 
 -- ---- one by one
 
@@ -116,3 +118,46 @@ module _ {s : List ℕ} {o : ℕ} {out₀ : List ℕ} {at : ℕ} {out : List ℕ
 
     pub putting-end : {out′ : List ℕ} {k′ : ℕ} → Stored o i v out k out′ k′ → (k′ ≡ at + length (rowSteps o s)) × (out′ ≡ sets out₀ at (rowSteps o s))
     putting-end r = storing-end (storing-run (p .storing) (wordSteps o i v) [] (row-rest o s w i v h e ∙ sym (append-nil (wordSteps o i v))) (r .0) (r .1)) refl
+
+-- ---- word by word, where four places are left loose
+
+pub record Running (s : List ℕ) (o : ℕ) (out₀ : List ℕ) (at : ℕ) (out : List ℕ) (i k : ℕ) : Type 0 where
+  pub few : i ≤ length s
+  pub room : at + length (rowSteps o s) + groupBits ≤ length out₀
+  pub loosely : Loosely out₀ at (rowSteps o s) out k (rowLeft o s i)
+
+pub running-start : (s : List ℕ) (o : ℕ) (out : List ℕ) (at : ℕ) → at + length (rowSteps o s) + groupBits ≤ length out → Running s o out at out 0 at
+running-start s o out at h =
+    record { few = omega arith; room = h; loosely = loosely-start out at (rowSteps o s) (rowLeft o s 0) (row-start o s) }
+
+module _ {s : List ℕ} {o : ℕ} {out₀ : List ℕ} {at : ℕ} {out : List ℕ} {i k : ℕ} (p : Running s o out₀ at out i k) (w : Bytes s) (v : ℕ) where
+  -- one word more
+  module _ (h : i + wordBytes ≤ length s) (e : v ≡ little (take wordBytes (drop i s))) where
+    pub running-room : k + length (wordSteps o i v) + groupBits ≤ length out
+    running-room =
+        let n : length (rowLeft o s i) ≡ length (wordSteps o i v) + length (rowLeft o s (i + wordBytes)) =
+        ap length (row-word o s w i v h e) ∙ length-append (wordSteps o i v) (rowLeft o s (i + wordBytes))
+        in
+        omega (arith, p .room, p .loosely .same, p .loosely .place)
+
+    pub running-turn : {out′ : List ℕ} {k′ : ℕ} → length out′ ≡ length out → k′ ≡ k + length (wordSteps o i v) → Loose out k (wordSteps o i v) out′
+        → Running s o out₀ at out′ (i + wordBytes) k′
+    running-turn n ek f = record {
+      few = h;
+      room = p .room;
+      loosely = loosely-run (p .loosely) (wordSteps o i v) (rowLeft o s (i + wordBytes)) (row-word o s w i v h e) n ek f;
+    }
+
+  -- the bytes that are left
+  module _ (h : length s < i + wordBytes) (e : v ≡ little (drop i s)) where
+    pub running-room-rest : o + byteBits * length s < 2 ^ 31 → Room o i v out k
+    running-room-rest f = (
+      omega (arith, p .few, beyond-bits wordBits (o + byteBits * i) v),
+      omega (arith, p .room, p .loosely .same, p .loosely .place, ap length (row-rest o s w i v h e)),
+    )
+
+    pub running-end : {out′ : List ℕ} {k′ : ℕ} → length out′ ≡ length out → Stored o i v out k out′ k′
+        → (k′ ≡ at + length (rowSteps o s)) × Loose out₀ at (rowSteps o s) out′
+    running-end {out′} {k′} n r =
+        let q : rowLeft o s i ≡ wordSteps o i v ++ [] = row-rest o s w i v h e ∙ sym (append-nil (wordSteps o i v)) in
+        loosely-end (loosely-run (p .loosely) (wordSteps o i v) [] q n (r .0) (exact-loose out k (wordSteps o i v) out′ (r .1))) refl

@@ -2,10 +2,10 @@
 -- Assumes nothing.
 use mathlib.Core.Path.{_≡_, refl, sym, ap, _∙_}
 use mathlib.Core.List.{List, [], _∷_, _++_, map, map-append, append-nil, append-assoc}
-use Prim.Native.Nat.{ℕ, suc, _+_, _*_, _≤_, _<_}
+use Prim.Native.Nat.{ℕ, suc, _+_, _-_, _*_, _≤_, _<_}
 use native.Mathlib.Omega.{arith}
-use lib.ListN.{length, getD, take, drop, length-map, take-append-drop, drop-of-length-le}
-use lib.Seq.{take-suc, length-take-le}
+use lib.ListN.{length, getD, take, drop, length-map, length-drop, take-append-drop, drop-of-length-le}
+use lib.Seq.{take-suc, take-all, length-take-le}
 use Rattle.lists.specs.Rising.{Rising, beyond}
 use Rattle.lists.proofs.Parts.{drop-one}
 use Rattle.lists.proofs.Rising.{beyond-append, beyond-le, beyond-map}
@@ -84,6 +84,14 @@ row-split o s i h =
     ap (rowSteps o) (sym (take-append-drop i s))
     ∙ row-append o (take i s) (drop i s)
     ∙ ap (λ (k : ℕ). rowSteps o (take i s) ++ rowSteps (o + byteBits * k) (drop i s)) (length-take-le i s h)
+
+-- a row in two parts
+pub row-parts : (o : ℕ) (s : List ℕ) (i : ℕ) → i ≤ length s
+    → rowSteps o s ≡ rowSteps o (take i s) ++ rowSteps (o + byteBits * i) (take (length s - i) (drop i s))
+row-parts o s i h =
+    row-split o s i h
+    ∙ ap (λ (l : List ℕ). rowSteps o (take i s) ++ rowSteps (o + byteBits * i) l)
+    (sym (take-all (length s - i) (drop i s) (omega (arith, length-drop i s))))
 
 -- one byte more
 pub row-turn : (o : ℕ) (s : List ℕ) (i x : ℕ) → i < length s → x ≡ getD s i 0

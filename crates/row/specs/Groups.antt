@@ -30,9 +30,14 @@ unfoldable pub placesFrom : ℕ → ℕ → List ℕ
 placesFrom zero v = []
 placesFrom (suc k) v = placesOf v ++ placesFrom k (suc v)
 
--- the table: those of all groups
+-- how many ones each of these has
+unfoldable pub countsFrom : ℕ → ℕ → List ℕ
+countsFrom zero v = []
+countsFrom (suc k) v = length (bitsFrom groupBits 0 v) ∷ countsFrom k (suc v)
+
+-- the table: the places of all groups, and then how many ones each has
 unfoldable pub allPlaces : List ℕ
-allPlaces = placesFrom groupValues 0
+allPlaces = placesFrom groupValues 0 ++ countsFrom groupValues 0
 
 -- `vs` was stored from `at` on, and the four places after it may have changed: whoever stores so many numbers there does not see it
 abbrev pub Loose : List ℕ → ℕ → List ℕ → List ℕ → Type 0

@@ -28,8 +28,8 @@ const GROUP_BITS: usize = 4;
 const GROUP_VALUES: usize = 16;
 
 // For each group the places of its ones, the lowest first, and then others up to four, which nobody reads. These are chosen so that no number
-// repeats for long: the compiler then stores the table in four pieces.
-const PLACES: [u8; 64] = [
+// repeats for long: the compiler then stores the table in a few pieces. After all places, how many ones each group has.
+const PLACES: [u8; 80] = [
     0,
     1,
     2,
@@ -94,7 +94,29 @@ const PLACES: [u8; 64] = [
     1,
     2,
     3,
+    0,
+    1,
+    1,
+    2,
+    1,
+    2,
+    2,
+    3,
+    1,
+    2,
+    2,
+    3,
+    2,
+    3,
+    3,
+    4,
 ];
+
+// Where in the table the numbers of ones begin.
+const COUNTS: usize = 64;
+
+// The last bytes of a row, which are read by themselves.
+const TAIL: usize = 16;
 
 // A word with fewer ones is read one by one. Of 4 to 12 this was among the fastest for random rows.
 const MANY: usize = 6;
@@ -272,6 +294,7 @@ fn put_group(places: &[u8], group: usize, from: usize, out: &mut [u32], at: usiz
     let second = from + rules::wide(places[t + 1]);
     let third = from + rules::wide(places[t + 2]);
     let fourth = from + rules::wide(places[t + 3]);
+    let count = rules::wide(places[COUNTS + group]);
     put_four(
         first as u32,
         second as u32,
@@ -280,7 +303,7 @@ fn put_group(places: &[u8], group: usize, from: usize, out: &mut [u32], at: usiz
         out,
         at,
     );
-    at + ones(group)
+    at + count
 }
 
 // The same for all groups of a word.
@@ -363,8 +386,58 @@ pub fn put_word(word: usize, from: usize, out: &mut [u32], at: usize) -> usize
     put_dense(&places, word, from, out, at)
 }
 
-// Puts the steps of a row, whose first bit stands for `from`, into a buffer from a place on, and gives the place after them.
-pub fn steps(part: &[u8], from: usize, out: &mut [u32], at: usize) -> usize
+// Puts the steps of a word into a buffer, by the way that is the fastest for as many ones as it has. The four places after them are left
+// with anything.
+fn put_loose(places: &[u8], word: usize, from: usize, out: &mut [u32], at: usize) -> usize
+    requires { ⌜ (now places ≡ allPlaces) × ((from < 2 ^ 31) × (at + length (bitsFrom wordBits from word) + groupBits ≤ length (now out))) ⌝ }
+    ensures { λ r. ⌜ (r ≡ at + length (bitsFrom wordBits from word))
+        × Loose (now (out .entry)) at (bitsFrom wordBits from word) (now (out .exit)) ⌝ }
+{
+    if word == FULL {
+        return put_full(from, out, at);
+    }
+    if ones(word) < MANY {
+        return put_ones(word, from, out, at);
+    }
+    put_groups(places, word, from, out, at)
+}
+
+// Puts the steps of a row, whose first bit stands for `from`, into a buffer from a place on, and gives the place after them. The four places
+// after them are left with anything.
+fn steps_loose(part: &[u8], from: usize, out: &mut [u32], at: usize) -> usize
+    requires { ⌜ (from + 8 * length (now part) < 2 ^ 31) × (at + length (rowSteps from (now part)) + groupBits ≤ length (now out)) ⌝ }
+    ensures { λ r. ⌜ (r ≡ at + length (rowSteps from (now (part .entry))))
+        × Loose (now (out .entry)) at (rowSteps from (now (part .entry))) (now (out .exit)) ⌝ }
+{
+    let places = PLACES;
+    let mut i: usize = 0;
+    let mut k = at;
+    while i + WORD_BYTES <= part.len() {
+        k = put_loose(&places, word_at(part, i), from + BYTE_BITS * i, out, k);
+        i += WORD_BYTES;
+    }
+    put_ones(last_word(part, i), from + BYTE_BITS * i, out, k)
+}
+
+// The same for a caller that knows the place after the steps, where the four numbers that stand there are put back. This is done once for the
+// row and not for each word, since reading ahead of the steps waits for memory that no store has reached yet.
+fn steps_before(part: &[u8], from: usize, out: &mut [u32], at: usize, end: usize) -> usize
+    requires { ⌜ (from + 8 * length (now part) < 2 ^ 31)
+        × ((end ≡ at + length (rowSteps from (now part))) × (end + groupBits ≤ length (now out))) ⌝ }
+    ensures { λ r. ⌜ (r ≡ at + length (rowSteps from (now (part .entry))))
+        × (now (out .exit) ≡ sets (now (out .entry)) at (rowSteps from (now (part .entry)))) ⌝ }
+{
+    let first = out[end];
+    let second = out[end + 1];
+    let third = out[end + 2];
+    let fourth = out[end + 3];
+    let k = steps_loose(part, from, out, at);
+    put_four(first, second, third, fourth, out, end);
+    k
+}
+
+// The same word by word, where no place after the steps changes.
+fn steps_exact(part: &[u8], from: usize, out: &mut [u32], at: usize) -> usize
     requires { ⌜ (from + 8 * length (now part) ≤ 2 ^ 32) × (at + length (rowSteps from (now part)) ≤ length (now out)) ⌝ }
     ensures { λ r. ⌜ (r ≡ at + length (rowSteps from (now (part .entry))))
         × (now (out .exit) ≡ sets (now (out .entry)) at (rowSteps from (now (part .entry)))) ⌝ }
@@ -377,6 +450,47 @@ pub fn steps(part: &[u8], from: usize, out: &mut [u32], at: usize) -> usize
         i += WORD_BYTES;
     }
     put_ones(last_word(part, i), from + BYTE_BITS * i, out, k)
+}
+
+// The same by the faster of the two ways, if the buffer has four places more.
+fn steps_in(part: &[u8], from: usize, out: &mut [u32], at: usize) -> usize
+    requires { ⌜ (from + 8 * length (now part) ≤ 2 ^ 32) × (at + length (rowSteps from (now part)) ≤ length (now out)) ⌝ }
+    ensures { λ r. ⌜ (r ≡ at + length (rowSteps from (now (part .entry))))
+        × (now (out .exit) ≡ sets (now (out .entry)) at (rowSteps from (now (part .entry)))) ⌝ }
+{
+    if from + BYTE_BITS * part.len() < NEAR {
+        let n = ones_in(part);
+        if n + GROUP_BITS <= out.len() - at {
+            return steps_before(part, from, out, at, at + n);
+        }
+    }
+    steps_exact(part, from, out, at)
+}
+
+// How many bytes of a row are its front: all, if some places more than it can have steps are left in the buffer, else all but the last few.
+fn front(size: usize, room: usize) -> usize
+    requires { ⌜ size < 2 ^ 32 ⌝ }
+    ensures { λ r. ⌜ r ≤ size ⌝ }
+{
+    if BYTE_BITS * size + GROUP_BITS <= room {
+        return size;
+    }
+    if size < TAIL {
+        return 0;
+    }
+    size - TAIL
+}
+
+// Puts the steps of a row, whose first bit stands for `from`, into a buffer from a place on, and gives the place after them. Where the buffer
+// may have no place more than the row has steps, those of the last bytes give room to the front.
+pub fn steps(part: &[u8], from: usize, out: &mut [u32], at: usize) -> usize
+    requires { ⌜ (from + 8 * length (now part) ≤ 2 ^ 32) × (at + length (rowSteps from (now part)) ≤ length (now out)) ⌝ }
+    ensures { λ r. ⌜ (r ≡ at + length (rowSteps from (now (part .entry))))
+        × (now (out .exit) ≡ sets (now (out .entry)) at (rowSteps from (now (part .entry)))) ⌝ }
+{
+    let n = front(part.len(), out.len() - at);
+    let k = steps_in(&part[..n], from, out, at);
+    steps_in(&part[n..], from + BYTE_BITS * n, out, k)
 }
 
 // The byte with a one at a place.

@@ -1,4 +1,4 @@
--- `row::put_group` meets its contract: the table has the places of the group's ones, and what is stored after them does not count.
+-- `row::put_group` meets its contract: the table has the places and the number of the group's ones, and what is stored after them does not count.
 -- Assumes nothing.
 use mathlib.Core.Path.{sym, ap, subst}
 use Prim.Native.Nat.{ℕ, _+_}
@@ -6,7 +6,7 @@ use native.Mathlib.Omega.{arith}
 use borrow.Author.Needs.{needs}
 use Rattle.row.specs.Row.{bitsFrom}
 use Rattle.row.specs.Groups.{groupBits, Loose}
-use Rattle.row.proofs.Grouping.{table-length, group-loose, group-ones}
+use Rattle.row.proofs.Grouping.{table-length, table-count, group-loose}
 use Rattle.row.proofs.put_group.Statement.{statement}
 use Rattle.row.proofs.put_group.Tie as tie
 
@@ -58,6 +58,15 @@ wide-requires-4 c κs = search needs
 add-fourth : tie.Need-add-fourth
 add-fourth c = search needs
 
+add-wide-4 : tie.Need-add-wide-4
+add-wide-4 c = search needs
+
+shared-slice-read-wide-5 : tie.Need-shared-slice-read-wide-5
+shared-slice-read-wide-5 c = omega (arith, table-length (c .before .before .before .before .before .before .before .before .before .before .before .args .places .now) (c .before .before .before .before .before .before .before .before .before .before .before .pre .0))
+
+wide-requires-5 : tie.Need-wide-requires-5
+wide-requires-5 c κs = search needs
+
 cast-put-four : tie.Need-cast-put-four
 cast-put-four c = search needs
 
@@ -73,9 +82,6 @@ cast-put-four-4 c = search needs
 put-four-requires : tie.Need-put-four-requires
 put-four-requires c κs = search needs
 
-ones-requires : tie.Need-ones-requires
-ones-requires c κs = search needs
-
 add-result : tie.Need-add-result
 add-result c = search needs
 
@@ -84,12 +90,11 @@ same-length c = search needs
 
 returns : tie.Need-returns
 returns c =
-    let s = c .before .before .before .before .before .before .before .before .before .before .before .before .before .before .before in
+    let s = c .before .before .before .before .before .before .before .before .before .before .before .before .before .before .before .before in
     let a = s .args in
-    let f = c .before .before .before .put-four in
-    let n = group-ones (a .from) (a .group) _ (s .pre .1 .0) (c .ones .ensures .0) in
-    let l = group-loose (a .places .now) (a .group) (a .from) (a .at) (a .out .now) _ _ _ _ (s .pre .0) (s .pre .1 .0) (c .before .before .before .before .before .before .before .before .before .before .before .wide .ensures .0) (c .before .before .before .before .before .before .before .before .before .wide2 .ensures .0) (c .before .before .before .before .before .before .before .wide3 .ensures .0) (c .before .before .before .before .before .wide4 .ensures .0) in
-    (ap (λ (k : ℕ). a .at + k) n, subst (Loose (a .out .now) (a .at) (bitsFrom groupBits (a .from) (a .group))) (sym (f .ensures)) l)
+    let n = table-count (a .places .now) (a .group) (a .from) _ (s .pre .0) (s .pre .1 .0) (c .before .before .before .before .wide5 .ensures .0) in
+    let l = group-loose (a .places .now) (a .group) (a .from) (a .at) (a .out .now) _ _ _ _ (s .pre .0) (s .pre .1 .0) (c .before .before .before .before .before .before .before .before .before .before .before .before .wide .ensures .0) (c .before .before .before .before .before .before .before .before .before .before .wide2 .ensures .0) (c .before .before .before .before .before .before .before .before .wide3 .ensures .0) (c .before .before .before .before .before .before .wide4 .ensures .0) in
+    (ap (λ (k : ℕ). a .at + k) n, subst (Loose (a .out .now) (a .at) (bitsFrom groupBits (a .from) (a .group))) (sym (c .before .before .put-four .ensures)) l)
 
 pub put-group-spec : {M : Type 1} → statement M
 put-group-spec =
@@ -111,12 +116,14 @@ put-group-spec =
     shared-slice-read-wide-4
     wide-requires-4
     add-fourth
+    add-wide-4
+    shared-slice-read-wide-5
+    wide-requires-5
     cast-put-four
     cast-put-four-2
     cast-put-four-3
     cast-put-four-4
     put-four-requires
-    ones-requires
     add-result
     same-length
     returns)

@@ -24,7 +24,7 @@ put-group-requires : tie.Need-put-group-requires Inv-loop μ-loop
 put-group-requires c κs =
     let s = c .before .before .before .before .before in
     let l = c .before .before .loop in
-    (s .pre .0, (omega arith, (omega arith, omega (arith, grouping-room (l .inv), l .inv .same, s .pre .1 .1))))
+    (s .pre .0, (omega arith, (omega arith, omega (arith, grouping-room (l .inv), l .inv .loosely .same, s .pre .1 .1))))
 
 add-j : tie.Need-add-j Inv-loop μ-loop
 add-j c = omega arith
@@ -38,7 +38,7 @@ loop-again c =
     grouping-turn (c .before .before .before .before .before .loop .inv) (omega arith) (f .kept .1 .1 .1 .0) (f .ensures .0) (f .ensures .1)
 
 same-length : tie.Need-same-length Inv-loop μ-loop
-same-length c = c .before .loop .inv .same
+same-length c = c .before .loop .inv .loosely .same
 
 returns : tie.Need-returns Inv-loop μ-loop
 returns c = grouping-end (c .before .loop .inv) (omega arith)

@@ -2,7 +2,7 @@
 use mathlib.Core.Path.{refl}
 use borrow.Author.Needs.{needs}
 use Rattle.row.specs.Row.{bitsFrom}
-use Rattle.row.specs.Groups.{placesFrom, allPlaces}
+use Rattle.row.specs.Groups.{placesFrom, countsFrom, allPlaces}
 use Rattle.row.proofs.Putting.{full-room, full-stored}
 use Rattle.row.proofs.put_word.Statement.{statement}
 use Rattle.row.proofs.put_word.Tie as tie
@@ -36,7 +36,7 @@ slice-aggregate-put-dense : tie.Need-slice-aggregate-put-dense
 slice-aggregate-put-dense c = search needs
 
 put-dense-requires : tie.Need-put-dense-requires
-unfolding allPlaces placesFrom bitsFrom
+unfolding allPlaces placesFrom countsFrom bitsFrom
 put-dense-requires c κs = (refl, c .before .before .before .before .before .before .pre)
 
 same-length-3 : tie.Need-same-length-3

@@ -1,104 +1,108 @@
--- `row::steps` meets its contract: the steps of the bytes from i on are still to be stored. Assumes nothing.
-use mathlib.Core.Path.{refl, ap, _∙_}
-use Prim.Native.Nat.{_-_}
+-- `row::steps` meets its contract: the front and the last bytes, one after the other. Assumes nothing.
+use mathlib.Core.Path.{sym, ap, _∙_}
+use mathlib.Core.List.{List}
+use Prim.Native.Nat.{ℕ, _+_, _-_, _*_}
 use native.Mathlib.Omega.{arith}
 use borrow.Author.Needs.{needs}
-use lib.ListN.{length}
-use lib.Seq.{length-sets}
-use Rattle.row.specs.Row.{bitsFrom}
-use Rattle.row.specs.Groups.{placesFrom, allPlaces}
-use Rattle.row.proofs.Putting.{Room, Putting, putting-start, putting-room, putting-turn, putting-room-rest, putting-end}
+use lib.ListN.{length, take, drop, length-append, length-drop}
+use lib.Seq.{sets, length-take-le}
+use Rattle.lists.proofs.Stores.{sets-append}
+use Rattle.row.specs.Row.{byteBits, rowSteps}
+use Rattle.row.proofs.Row.{row-parts}
 use Rattle.row.proofs.steps.Statement.{statement}
 use Rattle.row.proofs.steps.Tie as tie
 
-abbrev Inv-loop : tie.InvT-loop
-Inv-loop part from out₀ at places i₀ k₀ out i k = Putting part from out₀ at out i k
+sub-front : tie.Need-sub-front
+sub-front c = search needs
 
-abbrev μ-loop : tie.MeasureT-loop
-μ-loop part from out₀ at places i₀ k₀ out i k = length part - i
+front-requires : tie.Need-front-requires
+front-requires c κs = search needs
 
-loop-holds : tie.Need-loop-holds Inv-loop μ-loop
-loop-holds c =
-    let a = c .before .before .args in
-    putting-start (a .part .now) (a .from) (a .out .now) (a .at) (c .before .before .pre .1)
+slice-aggregate-steps-in : tie.Need-slice-aggregate-steps-in
+slice-aggregate-steps-in c =
+    let f = c .before .front in
+    sym (length-take-le (f .result) (c .before .before .before .before .args .part .now) (f .ensures))
 
-add-loop : tie.Need-add-loop Inv-loop μ-loop
-add-loop c = omega arith
+steps-in-requires : tie.Need-steps-in-requires
+steps-in-requires c κs =
+    let s = c .before .before .before .before .before in
+    let a = s .args in
+    let f = c .before .before .front in
+    let one : List ℕ = rowSteps (a .from) (take (f .result) (a .part .now)) in
+    let other : List ℕ = rowSteps (a .from + byteBits * f .result) (take (length (a .part .now) - f .result) (drop (f .result) (a .part .now))) in (
+      omega (arith, length-take-le (f .result) (a .part .now) (f .ensures), f .ensures, s .pre .0),
+      omega (arith, ap length (row-parts (a .from) (a .part .now) (f .result) (f .ensures)), length-append one other, s .pre .1),
+    )
 
-slice-aggregate-put-by-table : tie.Need-slice-aggregate-put-by-table Inv-loop μ-loop
-slice-aggregate-put-by-table c = search needs
+sub-steps-in : tie.Need-sub-steps-in
+sub-steps-in c = search needs
 
-word-at-requires : tie.Need-word-at-requires Inv-loop μ-loop
-word-at-requires c κs = omega arith
+part-steps-in-start : tie.Need-part-steps-in-start
+part-steps-in-start c = search needs
 
-mul-put-by-table : tie.Need-mul-put-by-table Inv-loop μ-loop
-mul-put-by-table c = omega arith
+part-steps-in-end : tie.Need-part-steps-in-end
+part-steps-in-end c = search needs
 
-add-put-by-table : tie.Need-add-put-by-table Inv-loop μ-loop
-add-put-by-table c = omega arith
+mul-steps-in : tie.Need-mul-steps-in
+mul-steps-in c = search needs
 
-room : (c : tie.After-put-by-table-arg Inv-loop μ-loop)
-    → Room (c .before .before .before .before .before .before .before .args .from) (c .before .before .before .before .loop .i) (c .before .word-at .result) (c .before .before .before .before .loop .out) (c .before .before .before .before .loop .k)
-room c =
-    let w = c .before .word-at in
-    putting-room (c .before .before .before .before .loop .inv) (λ j. c .before .before .before .before .before .before .shared-slice-known .given j .fits) (w .result) (omega arith) (w .ensures) (c .before .before .before .before .before .before .before .pre .0)
+add-steps-in : tie.Need-add-steps-in
+add-steps-in c = search needs
 
-put-by-table-requires : tie.Need-put-by-table-requires Inv-loop μ-loop
-unfolding allPlaces placesFrom bitsFrom
-put-by-table-requires c κs = (refl, room c)
+steps-in-requires-2 : tie.Need-steps-in-requires-2
+steps-in-requires-2 c κs =
+    let s = c .before .before .before .before .before .before .before .before .before .before in
+    let a = s .args in
+    let f = c .before .before .before .before .before .before .before .front in
+    let g = c .before .before .before .before .steps-in in
+    let rest : List ℕ = drop (f .result) (a .part .now) in
+    let one : List ℕ = rowSteps (a .from) (take (f .result) (a .part .now)) in
+    let other : List ℕ = rowSteps (a .from + byteBits * f .result) (take (length (a .part .now) - f .result) rest) in
+    let l = length-drop (f .result) (a .part .now) in (
+      omega (arith, length-take-le (length (a .part .now) - f .result) rest (omega (arith, l)), f .ensures, s .pre .0),
+      omega (
+        arith,
+        g .ensures .0,
+        g .kept .1 .1 .0,
+        ap length (row-parts (a .from) (a .part .now) (f .result) (f .ensures)),
+        length-append one other,
+        s .pre .1,
+      ),
+    )
 
-add-i : tie.Need-add-i Inv-loop μ-loop
-add-i c = omega arith
+same-length : tie.Need-same-length
+same-length c = search needs
 
-loop-less : tie.Need-loop-less Inv-loop μ-loop
-loop-less c = omega arith
-
-loop-again : tie.Need-loop-again Inv-loop μ-loop
-loop-again c =
-    let w = c .before .before .before .before .word-at in
-    putting-turn (c .before .before .before .before .before .before .before .loop .inv) (λ j. c .before .before .before .before .before .before .before .before .before .shared-slice-known .given j .fits) (w .result) (omega arith) (w .ensures) (c .before .before .put-by-table .ensures)
-
-last-word-requires : tie.Need-last-word-requires Inv-loop μ-loop
-last-word-requires c κs = (c .before .loop .inv .few, omega arith)
-
-mul-put-ones : tie.Need-mul-put-ones Inv-loop μ-loop
-mul-put-ones c = omega arith
-
-add-put-ones : tie.Need-add-put-ones Inv-loop μ-loop
-add-put-ones c = omega arith
-
-put-ones-requires : tie.Need-put-ones-requires Inv-loop μ-loop
-put-ones-requires c κs =
-    let w = c .before .last-word in
-    putting-room-rest (c .before .before .before .loop .inv) (λ j. c .before .before .before .before .before .shared-slice-known .given j .fits) (w .result) (omega arith) (w .ensures) (c .before .before .before .before .before .before .pre .0)
-
-same-length : tie.Need-same-length Inv-loop μ-loop
-same-length c = ap length (c .before .before .put-ones .ensures .1) ∙ simp length-sets (c .before .before .before .before .before .before .loop .inv .storing .same)
-
-returns : tie.Need-returns Inv-loop μ-loop
+returns : tie.Need-returns
 returns c =
-    let w = c .before .before .before .before .last-word in
-    putting-end (c .before .before .before .before .before .before .loop .inv) (λ j. c .before .before .before .before .before .before .before .before .shared-slice-known .given j .fits) (w .result) (omega arith) (w .ensures) (c .before .before .put-ones .ensures)
+    let a = c .before .before .before .before .before .before .before .before .before .before .before .before .before .args in
+    let f = c .before .before .before .before .before .before .before .before .before .before .front in
+    let g = c .before .before .before .before .before .before .before .steps-in in
+    let h = c .before .before .steps-in2 .ensures in
+    let one : List ℕ = rowSteps (a .from) (take (f .result) (a .part .now)) in
+    let other : List ℕ = rowSteps (a .from + byteBits * f .result) (take (length (a .part .now) - f .result) (drop (f .result) (a .part .now))) in
+    let q = row-parts (a .from) (a .part .now) (f .result) (f .ensures) in (
+      omega (arith, h .0, g .ensures .0, ap length q, length-append one other),
+      h .1
+          ∙ ap (λ (l : List ℕ). sets l (g .result) other) (g .ensures .1)
+          ∙ ap (λ (k : ℕ). sets (sets (a .out .now) (a .at) one) k other) (g .ensures .0)
+          ∙ sym (sets-append (a .out .now) (a .at) one other)
+          ∙ ap (sets (a .out .now) (a .at)) (sym q),
+    )
 
 pub steps-spec : {M : Type 1} → statement M
 steps-spec =
     tie.close
     (tie.spec
-    Inv-loop
-    μ-loop
-    loop-holds
-    add-loop
-    slice-aggregate-put-by-table
-    word-at-requires
-    mul-put-by-table
-    add-put-by-table
-    put-by-table-requires
-    add-i
-    loop-less
-    loop-again
-    last-word-requires
-    mul-put-ones
-    add-put-ones
-    put-ones-requires
+    sub-front
+    front-requires
+    slice-aggregate-steps-in
+    steps-in-requires
+    sub-steps-in
+    part-steps-in-start
+    part-steps-in-end
+    mul-steps-in
+    add-steps-in
+    steps-in-requires-2
     same-length
     returns)
