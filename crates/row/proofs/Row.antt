@@ -4,7 +4,7 @@ use mathlib.Core.Path.{_≡_, refl, sym, ap, _∙_}
 use mathlib.Core.List.{List, [], _∷_, _++_, map, map-append, append-nil, append-assoc}
 use Prim.Native.Nat.{ℕ, suc, _+_, _-_, _*_, _≤_, _<_}
 use native.Mathlib.Omega.{arith}
-use lib.ListN.{length, getD, take, drop, length-map, length-drop, take-append-drop, drop-of-length-le}
+use lib.ListN.{length, getD, take, drop, length-map, length-append, length-drop, take-append-drop, drop-of-length-le}
 use lib.Seq.{take-suc, take-all, length-take-le}
 use Rattle.lists.specs.Rising.{Rising, beyond}
 use Rattle.lists.proofs.Parts.{drop-one}
@@ -92,6 +92,11 @@ row-parts o s i h =
     row-split o s i h
     ∙ ap (λ (l : List ℕ). rowSteps o (take i s) ++ rowSteps (o + byteBits * i) l)
     (sym (take-all (length s - i) (drop i s) (omega (arith, length-drop i s))))
+
+pub length-row-parts : (o : ℕ) (s : List ℕ) (i : ℕ) → i ≤ length s
+    → length (rowSteps o s) ≡ length (rowSteps o (take i s)) + length (rowSteps (o + byteBits * i) (take (length s - i) (drop i s)))
+length-row-parts o s i h =
+    ap length (row-parts o s i h) ∙ length-append (rowSteps o (take i s)) (rowSteps (o + byteBits * i) (take (length s - i) (drop i s)))
 
 -- one byte more
 pub row-turn : (o : ℕ) (s : List ℕ) (i x : ℕ) → i < length s → x ≡ getD s i 0

@@ -115,7 +115,9 @@ const PLACES: [u8; 80] = [
 // Where in the table the numbers of ones begin.
 const COUNTS: usize = 64;
 
-// The last bytes of a row, which are read by themselves.
+// A row of fewer bytes is short, and of a longer one so many at its end are read by themselves.
+const SHORT: usize = 512;
+
 const TAIL: usize = 16;
 
 // A word with fewer ones is read one by one. Of 4 to 12 this was among the fastest for random rows.
@@ -467,30 +469,20 @@ fn steps_in(part: &[u8], from: usize, out: &mut [u32], at: usize) -> usize
     steps_exact(part, from, out, at)
 }
 
-// How many bytes of a row are its front: all, if some places more than it can have steps are left in the buffer, else all but the last few.
-fn front(size: usize, room: usize) -> usize
-    requires { ⌜ size < 2 ^ 32 ⌝ }
-    ensures { λ r. ⌜ r ≤ size ⌝ }
-{
-    if BYTE_BITS * size + GROUP_BITS <= room {
-        return size;
-    }
-    if size < TAIL {
-        return 0;
-    }
-    size - TAIL
-}
-
-// Puts the steps of a row, whose first bit stands for `from`, into a buffer from a place on, and gives the place after them. Where the buffer
-// may have no place more than the row has steps, those of the last bytes give room to the front.
+// Puts the steps of a row, whose first bit stands for `from`, into a buffer from a place on, and gives the place after them. The last bytes are
+// read by themselves: where the buffer has no place more than the row has steps, theirs give room to those before them. A short row is not
+// worth counting first.
 pub fn steps(part: &[u8], from: usize, out: &mut [u32], at: usize) -> usize
     requires { ⌜ (from + 8 * length (now part) ≤ 2 ^ 32) × (at + length (rowSteps from (now part)) ≤ length (now out)) ⌝ }
     ensures { λ r. ⌜ (r ≡ at + length (rowSteps from (now (part .entry))))
         × (now (out .exit) ≡ sets (now (out .entry)) at (rowSteps from (now (part .entry)))) ⌝ }
 {
-    let n = front(part.len(), out.len() - at);
+    if part.len() < SHORT {
+        return steps_exact(part, from, out, at);
+    }
+    let n = part.len() - TAIL;
     let k = steps_in(&part[..n], from, out, at);
-    steps_in(&part[n..], from + BYTE_BITS * n, out, k)
+    steps_exact(&part[n..], from + BYTE_BITS * n, out, k)
 }
 
 // The byte with a one at a place.
