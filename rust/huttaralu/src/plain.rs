@@ -203,7 +203,7 @@ pub fn skip(cursor: Cursor, image: &[u8], bound: u32) -> Result<Cursor, Refusal>
 ///
 /// Refusals, in this order: 1 to 10 for the first image, then for the second, with the [side](Refusal::side);
 /// 13 for a result of more than 1,048,576 steps, 16 if `steps` is too short for the result, 14 if `work` is,
-/// 15 if `out` is. Cost: two passes over each image, and then that of writing.
+/// 15 if `out` is. Cost: three passes over each image, to check, count and store, and then that of writing.
 ///
 /// ```
 /// use huttaralu::{both_into, work_needed, write, Counted};
