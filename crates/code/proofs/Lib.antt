@@ -1,4 +1,4 @@
--- For the crates above: `Runs`, codes that stand one after the other.
--- For the proofs of this crate: `Bytewise`, what bytes say one by one.
-mod Bytewise
-pub mod Runs
+-- For the crates above: `Flagged`, what is kept by the flag of a byte.
+-- For the proofs of this crate: `Fronts`, a short code at the front of a part.
+pub mod Flagged
+mod Fronts

@@ -1,5 +1,5 @@
 // The variable-byte code of document 01: groups of seven bits, the highest first, each byte but the last with its high bit set, and the
-// shortest form only. Its length, writing it, reading it, and passing many codes at once.
+// shortest form only. Its length, writing it, and reading it.
 
 ghost use mathlib.Core.Path.{_≡_};
 ghost use Prim.Native.Nat.{_+_, _-_, _*_, _≤_, _<_};
@@ -7,8 +7,8 @@ ghost use lib.ListN.{length, getD};
 ghost use lib.Seq.{sets};
 ghost use Rattle.code.specs.declared.Reading.the-variants.{Code};
 ghost use Rattle.code.specs.Code.{oneGroup, twoGroups, threeGroups, flag, codeValues, codeOf, codeSize, readAt};
-ghost use Rattle.code.specs.Bytewise.{stretch, reach, kept, Shares, Added};
-ghost use Rattle.code.specs.Runs.{Passed};
+ghost use Rattle.code.specs.Flagged.{kept};
+ghost use Rattle.code.specs.Fronts.{Brief};
 
 // The values of a group, and of two and three groups: the numbers below have codes of one, two and three bytes.
 const ONE_GROUP: u32 = 128;
@@ -24,23 +24,7 @@ pub const CODE_VALUES: usize = 268435456;
 const FLAG: u32 = 128;
 
 // The same as a byte.
-const HIGH: u8 = 128;
-
-// Bytes that are added up at once.
-const STRETCH: usize = 64;
-
-// Bytes that have to be there for it: the last code may go on in three more, and what a byte says depends on the next three.
-pub const REACH: usize = 70;
-
-// What counts for something that is wrong.
-const FAULT: usize = 1;
-
-// How much more a group is worth for the first, the second and the third byte that follows it.
-const SECOND: usize = 127;
-
-const THIRD: usize = 16256;
-
-const FOURTH: usize = 2080768;
+pub const HIGH: u8 = 128;
 
 // Why no code stands at a place: its first byte is 80 hex, its fourth has the high bit, or the bytes end inside it.
 pub enum Flaw {
@@ -55,29 +39,12 @@ pub enum Reading {
     Bad(Flaw),
 }
 
-// What a byte and the next three say of it: the shares of what it adds to its code's value, whether a code ends with it, whether
-// something is wrong.
-struct Share {
-    low: u8,
-    second: u8,
-    third: u8,
-    fourth: u8,
-    ends: u8,
-    flaws: u8,
-}
-
-// What the bytes of a part add up to.
-struct Sums {
-    value: usize,
-    ends: usize,
-    flaws: usize,
-}
-
-// Codes that are passed at once: how many, the sum of their values, and the place after them.
-pub struct Stretch {
-    pub count: usize,
+// What two bytes say of the code that begins with the first: its value, 1 where the second belongs to it, and 1 where it goes on after that, so
+// that the value is not all of it.
+pub struct Front {
     pub value: usize,
-    pub after: usize,
+    pub extra: usize,
+    pub more: usize,
 }
 
 // How many bytes the code of x has.
@@ -179,6 +146,31 @@ pub fn double(s: &[u8]) -> usize
     CODE_VALUES
 }
 
+// The number of two bytes where the first has the high bit, else that of one.
+fn chosen(flagged: u32, one: u32, two: u32) -> u32
+    ensures { λ r. ⌜ (flagged ≡ 0 → r ≡ one) × (0 < flagged → r ≡ two) ⌝ }
+{
+    if flagged == 0 {
+        return one;
+    }
+    two
+}
+
+// The code that begins with the byte a, and goes on with b if it goes on, where it has one byte or two and does not fail. Which of them it is
+// comes by chance, so there is no test for it: both values are made, and one is taken.
+pub fn short(a: u8, b: u8) -> Front
+    ensures { λ r. ⌜ Brief a b (r .value) (r .extra) (r .more) ⌝ }
+{
+    let x = wide(a);
+    let y = wide(b);
+    let flagged = x / FLAG;
+    Front {
+        value: chosen(flagged, x, x % ONE_GROUP * ONE_GROUP + y) as usize,
+        extra: flagged as usize,
+        more: kept(a, kept(b, 1)) as usize,
+    }
+}
+
 // Reads the code at a place of a part.
 pub fn read(s: &[u8], at: usize) -> Reading
     ensures { λ r. ⌜ r ≡ readAt (now (s .entry)) at ⌝ }
@@ -234,181 +226,9 @@ pub fn read(s: &[u8], at: usize) -> Reading
 }
 
 // A number of seven bits where a byte has the high bit, else 0. A product, since a test would become a branch.
-fn kept(b: u8, x: u8) -> u8
+pub fn kept(b: u8, x: u8) -> u8
     requires { ⌜ x < oneGroup ⌝ }
     ensures { λ r. ⌜ (r ≡ kept b x) × (r ≤ x) ⌝ }
 {
     x * (b / HIGH)
-}
-
-// 1 where a code ends with a byte and the next starts with 80 hex.
-fn padded(ends: u8, b: u8) -> u8
-    requires { ⌜ ends < 2 ⌝ }
-    ensures { λ r. ⌜ (r ≤ ends) × ((b ≡ flag → r ≡ ends) × ((b ≡ flag → ⊥) → r ≡ 0)) ⌝ }
-{
-    if b == HIGH {
-        return ends;
-    }
-    0
-}
-
-// What a byte and the next three say of it.
-fn weigh(a: u8, b: u8, c: u8, d: u8) -> Share
-    ensures { λ r. ⌜ Shares a b c d (r .low) (r .second) (r .third) (r .fourth) (r .ends) (r .flaws) ⌝ }
-{
-    let low = a % HIGH;
-    let second = kept(a, low);
-    let third = kept(b, second);
-    let fourth = kept(c, third);
-    let ends = 1 - a / HIGH;
-    let long = kept(a, kept(b, kept(c, kept(d, 1))));
-    Share {
-        low,
-        second,
-        third,
-        fourth,
-        ends,
-        flaws: long + padded(ends, b),
-    }
-}
-
-// The sum of weights that has these shares.
-fn joined(low: u16, second: u16, third: u16, fourth: u16) -> usize
-    ensures { λ r. ⌜ r ≡ low + (oneGroup - 1) * second + (twoGroups - oneGroup) * third + (threeGroups - twoGroups) * fourth ⌝ }
-{
-    low as usize
-        + SECOND * (second as usize)
-        + THIRD * (third as usize)
-        + FOURTH * (fourth as usize)
-}
-
-// Adds up what the bytes from `at` to before `upto` say. The sums are of sixteen bits, so that eight are counted at once.
-fn tally(s: &[u8], at: usize, upto: usize) -> Sums
-    requires { ⌜ (at ≤ upto) × ((upto ≤ at + stretch) × (upto + 3 ≤ length (now s))) ⌝ }
-    ensures { λ r. ⌜ Added (now (s .entry)) at upto (r .value) (r .ends) (r .flaws) ⌝ }
-{
-    let mut low: u16 = 0;
-    let mut second: u16 = 0;
-    let mut third: u16 = 0;
-    let mut fourth: u16 = 0;
-    let mut ends: u16 = 0;
-    let mut flaws: u16 = 0;
-    let mut i = at;
-    while i < upto {
-        let x = weigh(s[i], s[i + 1], s[i + 2], s[i + 3]);
-        low += x.low as u16;
-        second += x.second as u16;
-        third += x.third as u16;
-        fourth += x.fourth as u16;
-        ends += x.ends as u16;
-        flaws += x.flaws as u16;
-        i += 1;
-    }
-    Sums {
-        value: joined(low, second, third, fourth),
-        ends: ends as usize,
-        flaws: flaws as usize,
-    }
-}
-
-// The place after a code that began before a place: that place itself, or one of the next three, if the code is not too long.
-fn closing(s: &[u8], at: usize) -> usize
-    requires { ⌜ (0 < at) × (at + 3 ≤ length (now s)) ⌝ }
-    ensures { λ r. ⌜ (at ≤ r) × (r ≤ at + 3) ⌝ }
-{
-    if s[at - 1] < HIGH {
-        return at;
-    }
-    if s[at] < HIGH {
-        return at + 1;
-    }
-    if s[at + 1] < HIGH {
-        return at + 2;
-    }
-    at + 3
-}
-
-// 0 where a part starts as a code may and ends as one does.
-fn unframed(s: &[u8], at: usize, end: usize) -> usize
-    requires { ⌜ (at < end) × (end ≤ length (now s)) ⌝ }
-    ensures { λ r. ⌜ (r < 2) × (r ≡ 0 → (getD (now (s .entry)) at 0 ≡ flag → ⊥) × (getD (now (s .entry)) (end - 1) 0 < flag)) ⌝ }
-{
-    if s[at] == HIGH {
-        return FAULT;
-    }
-    if s[end - 1] < HIGH {
-        return 0;
-    }
-    FAULT
-}
-
-// Passes the codes of a stretch, of any sizes, from the first byte of a code on, or none where something is wrong.
-fn pass_mixed(s: &[u8], at: usize) -> Stretch
-    requires { ⌜ at + reach ≤ length (now s) ⌝ }
-    ensures { λ r. ⌜ (at < r .after → Passed (now (s .entry)) at (r .after) (r .count) (r .value)) ⌝ }
-{
-    let upto = at + STRETCH;
-    let end = closing(s, upto);
-    let most = tally(s, at, upto);
-    let rest = tally(s, upto, end);
-    if most.flaws + rest.flaws + unframed(s, at, end) == 0 {
-        return Stretch {
-            count: most.ends + rest.ends,
-            value: most.value + rest.value,
-            after: end,
-        };
-    }
-    Stretch {
-        count: 0,
-        value: 0,
-        after: at,
-    }
-}
-
-// The larger of two bytes.
-fn larger(x: u8, y: u8) -> u8
-    ensures { λ r. ⌜ (x ≤ r) × (y ≤ r) ⌝ }
-{
-    if x < y {
-        return y;
-    }
-    x
-}
-
-// The sum of a stretch's bytes where each is a code by itself, else the number of values.
-fn singles(s: &[u8], at: usize) -> usize
-    requires { ⌜ at + stretch ≤ length (now s) ⌝ }
-    ensures { λ r. ⌜ (r < codeValues → Passed (now (s .entry)) at (at + stretch) stretch r) ⌝ }
-{
-    let upto = at + STRETCH;
-    let mut value: u16 = 0;
-    let mut largest: u8 = 0;
-    let mut i = at;
-    while i < upto {
-        let a = s[i];
-        value += a as u16;
-        largest = larger(largest, a);
-        i += 1;
-    }
-    if largest < HIGH {
-        return value as usize;
-    }
-    CODE_VALUES
-}
-
-// Passes many codes at once, from the first byte of a code on, in less time where each is a single byte. Where something is wrong it
-// passes none, and the codes have to be read one by one.
-pub fn pass(s: &[u8], at: usize) -> Stretch
-    requires { ⌜ at + reach ≤ length (now s) ⌝ }
-    ensures { λ r. ⌜ (at < r .after → Passed (now (s .entry)) at (r .after) (r .count) (r .value)) ⌝ }
-{
-    let value = singles(s, at);
-    if value < CODE_VALUES {
-        return Stretch {
-            count: STRETCH,
-            value,
-            after: at + STRETCH,
-        };
-    }
-    pass_mixed(s, at)
 }

@@ -30,10 +30,10 @@ use Rattle.write.specs.Faults.{firstAbove, firstFall}
 use Rattle.write.specs.Promise as write
 use Rattle.write.proofs.Faults.{faultless-listed}
 use Rattle.write.proofs.Outcomes.{outcome-many, outcome-above, outcome-fall, outcome-work, outcome-unplaced, outcome-placed}
-use Rattle.pair.specs.declared.Operation.{Operation}
-use Rattle.pair.specs.Result.{resultOf}
+use Rattle.result.specs.declared.Operation.{Operation}
+use Rattle.result.specs.Result.{resultOf}
 use Rattle.pair.specs.Promise as pair
-use Rattle.pair.proofs.Outcomes.{result-many, result-steps, result-work, result-unplaced, result-placed}
+use Rattle.pair.proofs.Outcomes.{result-placed, accepted-placed}
 use Rattle.demands.specs.Inputs.{Accepts, Image, ImageWhere, WriteRoom, PairRoom}
 
 -- ---- by a test
@@ -140,20 +140,8 @@ module _ (xs : List ℕ) (work out : ℕ) where
 module _ (zs : List ℕ) (steps work out : ℕ) where
   result-room : Accepts (pair.answer (pair.onResult zs steps work out)) → PairRoom zs steps work out
   result-room a =
-      by-lt mostSteps n (λ h. stops (result-many zs n steps work out refl h))
-      (λ few. by-lt steps n (λ h. stops (result-steps zs n steps work out refl few h))
-      (λ s. by-lt work (workFor n) (λ h. stops (result-work zs n steps work out refl few s h))
-      (λ w. by-lt out (length (imageFor zs)) (λ h. refuses (at (result-unplaced zs n steps work out refl few s w h)))
-      (λ h. record { few = few; steps-room = s; work-room = w; out-room = h }))))
-    where
-      n : ℕ
-      n = length zs
-
-      at : {o : pair.Outcome} → pair.onResult zs steps work out ≡ o → Accepts (pair.answer o)
-      at e = subst (λ (o : pair.Outcome). Accepts (pair.answer o)) e a
-
-      stops : {X : Type 0} {r : Refusal} → pair.onResult zs steps work out ≡ pair.stopped r → X
-      stops e = refuses (at e)
+      let p = accepted-placed zs steps work out a in
+      record { few = p .few; steps-room = p .steps-room; work-room = p .work-room; out-room = p .out-room }
 
   room-result : PairRoom zs steps work out → Accepts (pair.answer (pair.onResult zs steps work out))
   room-result r =

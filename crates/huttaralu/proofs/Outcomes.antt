@@ -7,10 +7,10 @@ use Rattle.read.specs.declared.Checked.{Checked}
 use Rattle.read.specs.Read as read
 use Rattle.write.specs.declared.Counted as write
 use Rattle.write.specs.Promise.{paperOf, Promise}
-use Rattle.pair.specs.declared.Operation.{Operation}
+use Rattle.result.specs.declared.Operation.{Operation}
 use Rattle.pair.specs.Promise as pair
-use Rattle.huttaralu.specs.declared.Counted.{Counted}
-use Rattle.huttaralu.specs.Fields.{countedOf}
+use Rattle.answers.specs.declared.Counted.{Counted}
+use Rattle.answers.specs.Fields.{countedOf}
 use Rattle.huttaralu.specs.Says as says
 
 pub read-leaves : (image steps : List ℕ) (r : Checked) {a : Counted} {after : List ℕ} → a ≡ countedOf (read.paperOf r)

@@ -25,10 +25,10 @@ use Rattle.write.specs.Promise as write
 use Rattle.ask.specs.Rank as rank
 use Rattle.ask.specs.First as first
 use Rattle.ask.specs.Cursor as cursor
-use Rattle.pair.specs.declared.Operation.{Operation}
-use Rattle.pair.specs.Result.{resultOf}
+use Rattle.result.specs.declared.Operation.{Operation}
+use Rattle.result.specs.Result.{resultOf}
 use Rattle.pair.specs.Promise as pair
-use Rattle.huttaralu.specs.Fields.{refusalOf, telling, countedOf, rankedOf, firstOf, movedOf, clockOf, checkedPaper, countedPaper, rankedPaper, firstPaper, movedPaper, clockPaper}
+use Rattle.answers.specs.Fields.{refusalOf, telling, countedOf, rankedOf, firstOf, movedOf, clockOf, checkedPaper, countedPaper, rankedPaper, firstPaper, movedPaper, clockPaper}
 use Rattle.huttaralu.specs.Says as says
 
 -- a refusal with a number comes back from its fields

@@ -9,14 +9,14 @@ use Rattle.write.specs.Promise as writes
 use Rattle.ask.specs.Rank as ranks
 use Rattle.ask.specs.First as firsts
 use Rattle.ask.specs.Cursor as cursors
-use Rattle.pair.specs.declared.Operation.{Operation}
+use Rattle.result.specs.declared.Operation.{Operation}
 use Rattle.pair.specs.Promise as pairs
-use Rattle.huttaralu.specs.declared.Counted.{Counted}
-use Rattle.huttaralu.specs.declared.Ranked.{Ranked}
-use Rattle.huttaralu.specs.declared.First.{First}
-use Rattle.huttaralu.specs.declared.Moved.{Moved}
-use Rattle.huttaralu.specs.declared.Clock.{Clock}
-use Rattle.huttaralu.specs.Fields.{countedOf, rankedOf, firstOf, movedOf, clockOf}
+use Rattle.answers.specs.declared.Counted.{Counted}
+use Rattle.answers.specs.declared.Ranked.{Ranked}
+use Rattle.answers.specs.declared.First.{First}
+use Rattle.answers.specs.declared.Moved.{Moved}
+use Rattle.answers.specs.declared.Clock.{Clock}
+use Rattle.answers.specs.Fields.{countedOf, rankedOf, firstOf, movedOf, clockOf}
 
 abbrev pub check : List ℕ → Counted
 check image = countedOf (reads.checkPromise image)

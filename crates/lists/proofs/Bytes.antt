@@ -1,11 +1,11 @@
--- Laws of lists of bytes: parts of them and appending.
+-- Laws of lists of bytes: parts of them, appending, and stores.
 -- Assumes nothing.
 use mathlib.Core.List.{List, [], _∷_, _++_}
 use Prim.Native.Nat.{ℕ, zero, suc, _+_, _-_, _<_}
 use native.Mathlib.Omega.{arith}
 use native.Mathlib.Decide.{decLt}
-use lib.ListN.{take, drop, length-take, List·getD-eq-default}
-use lib.Seq.{getD-drop, getD-take}
+use lib.ListN.{set, take, drop, length-take, List·getD-eq-default}
+use lib.Seq.{sets, getD-drop, getD-take}
 use Rattle.lists.specs.Bytes.{Bytes, byteValues}
 use Rattle.lists.specs.Parts.{part}
 
@@ -32,3 +32,12 @@ bytes-take s n w i =
 
 pub bytes-part : (s : List ℕ) (i j : ℕ) → Bytes s → Bytes (part s i j)
 bytes-part s i j w = bytes-take (drop i s) (j - i) (bytes-drop s i w)
+
+bytes-set : (l : List ℕ) (i x : ℕ) → x < byteValues → Bytes l → Bytes (set l i x)
+bytes-set [] i x h w = w
+bytes-set (y ∷ ys) zero x h w = bytes-cons x ys h (λ j. w (suc j))
+bytes-set (y ∷ ys) (suc i) x h w = bytes-cons y (set ys i x) (w 0) (bytes-set ys i x h (λ j. w (suc j)))
+
+pub bytes-sets : (l : List ℕ) (at : ℕ) (vs : List ℕ) → Bytes l → Bytes vs → Bytes (sets l at vs)
+bytes-sets l at [] w u = w
+bytes-sets l at (v ∷ vs) w u = bytes-sets (set l at v) (suc at) vs (bytes-set l at v (u 0) w) (λ j. u (suc j))

@@ -1,52 +1,19 @@
 -- Laws that users of sets expect, of the bytes that chains end in: both and either are commutative, associative and idempotent, and the first
 -- without the empty image comes back as its shortest image.
 -- Assumes nothing.
-use mathlib.Core.Path.{_≡_, refl, sym, ap, _∙_}
-use mathlib.Core.Bool.{Bool, true, false}
+use mathlib.Core.Path.{_≡_, sym, ap, _∙_}
 use mathlib.Core.List.{List, []}
 use Prim.Native.Nat.{ℕ}
 use Rattle.lists.specs.Members.{has}
 use Rattle.lists.proofs.Members.{has-none}
 use Rattle.image.specs.Grammar.{Accepted}
 use Rattle.write.specs.Written.{Written}
-use Rattle.pair.specs.declared.Operation.{Operation}
-use Rattle.pair.specs.declared.Operation.the-variants.{Both, Either, Without}
-use Rattle.pair.specs.Result.{keeps}
+use Rattle.result.specs.declared.Operation.{Operation}
+use Rattle.result.specs.declared.Operation.the-variants.{Without}
+use Rattle.result.specs.Result.{keeps}
 use Rattle.pair.specs.Chain.{Thing, given, made, means, Ends}
+use Rattle.result.proofs.Sets.{Even, keeps-comm, keeps-assoc, keeps-self, keeps-all}
 use Rattle.pair.proofs.Chains.{chain-writes, chains-same}
-
--- the operations that do not tell the first from the second
-pub data Even : Operation → Type 0 where
-  both : Even Both
-  either : Even Either
-
-keeps-comm : {op : Operation} → Even op → (p q : Bool) → keeps op p q ≡ keeps op q p
-keeps-comm both true true = refl
-keeps-comm both true false = refl
-keeps-comm both false true = refl
-keeps-comm both false false = refl
-keeps-comm either true true = refl
-keeps-comm either true false = refl
-keeps-comm either false true = refl
-keeps-comm either false false = refl
-
-keeps-assoc : {op : Operation} → Even op → (p q r : Bool) → keeps op (keeps op p q) r ≡ keeps op p (keeps op q r)
-keeps-assoc both true q r = refl
-keeps-assoc both false q r = refl
-keeps-assoc either true q r = refl
-keeps-assoc either false q r = refl
-
-keeps-self : {op : Operation} → Even op → (p : Bool) → keeps op p p ≡ p
-keeps-self both true = refl
-keeps-self both false = refl
-keeps-self either true = refl
-keeps-self either false = refl
-
-keeps-all : (p : Bool) → keeps Without p false ≡ p
-keeps-all true = refl
-keeps-all false = refl
-
--- ---- in bytes
 
 module _ {op : Operation} (even : Even op) where
   -- IN EITHER ORDER

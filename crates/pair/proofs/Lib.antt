@@ -1,9 +1,3 @@
-pub mod Result
-pub mod Words
-pub mod Turns
-pub mod Merging
-pub mod Walking
-pub mod Windows
 pub mod Outcomes
 pub mod Decides
 pub mod Links

@@ -2,14 +2,12 @@
 -- Assumes nothing.
 use mathlib.Core.Path.{_≡_, refl, sym, ap, _∙_, subst}
 use mathlib.Core.List.{List}
-use Prim.Native.Nat.{ℕ, _≤_}
+use Prim.Native.Nat.{ℕ}
 use lib.ListN.{length, getD, take}
 use lib.Seq.{take-at}
 use Rattle.lists.specs.Bytes.{Bytes}
-use Rattle.lists.proofs.Choice.{by-lt}
-use Rattle.rules.specs.Limits.{mostSteps}
-use Rattle.rules.specs.Sizes.{workFor}
 use Rattle.rules.specs.declared.Refusal.{Refusal}
+use Rattle.rules.specs.Paper.{Paper}
 use Rattle.rules.proofs.Paper.{paper-apart, paper-values}
 use Rattle.image.specs.Verdict.{Verdict, taken, refused, verdict}
 use Rattle.image.proofs.Accepted.{verdict-accepted}
@@ -17,33 +15,15 @@ use Rattle.write.specs.declared.Counted.the-variants.{Accepted}
 use Rattle.write.specs.Written.{Written, imageFor}
 use Rattle.write.specs.Promise.{values, paperOf}
 use Rattle.write.proofs.Written.{written-some}
-use Rattle.pair.specs.declared.Operation.{Operation}
-use Rattle.pair.specs.Result.{resultOf}
-use Rattle.pair.specs.Promise.{Outcome, stopped, unplaced, placed, onResult, onVerdicts, outcome, answer, outAfter, Promise}
+use Rattle.result.specs.declared.Operation.{Operation}
+use Rattle.result.specs.Result.{resultOf}
+use Rattle.pair.specs.Promise.{Outcome, stopped, placed, onResult, onVerdicts, outcome, answer, outAfter, Promise}
 use Rattle.pair.specs.Chain.{Link}
-use Rattle.pair.proofs.Outcomes.{result-many, result-steps, result-work, result-unplaced, result-placed}
+use Rattle.pair.proofs.Outcomes.{accepted-placed}
 
--- a result that was placed
-pub record Made (zs : List ℕ) (o : Outcome) : Type 0 where
-  pub few : length zs ≤ mostSteps
-  pub is : o ≡ placed zs
-
-module _ {n k : ℕ} where
-  -- a refusal does not accept
-  not-stopped : {X : Type 0} {o : Outcome} {r : Refusal} → paperOf (Accepted n k) ≡ answer o → o ≡ stopped r → X
-  not-stopped a e = paper-apart values (a ∙ ap answer e)
-
-  not-unplaced : {X : Type 0} {o : Outcome} {zs : List ℕ} → paperOf (Accepted n k) ≡ answer o → o ≡ unplaced zs → X
-  not-unplaced a e = paper-apart values (a ∙ ap answer e)
-
-  -- a result that was accepted was placed
-  made-result : (zs : List ℕ) (steps work out : ℕ) → paperOf (Accepted n k) ≡ answer (onResult zs steps work out) → Made zs (onResult zs steps work out)
-  made-result zs steps work out a =
-      by-lt mostSteps (length zs) (λ h. not-stopped a (result-many zs (length zs) steps work out refl h))
-      (λ few. by-lt steps (length zs) (λ h. not-stopped a (result-steps zs (length zs) steps work out refl few h))
-      (λ room. by-lt work (workFor (length zs)) (λ h. not-stopped a (result-work zs (length zs) steps work out refl few room h))
-      (λ enough. by-lt out (length (imageFor zs)) (λ h. not-unplaced a (result-unplaced zs (length zs) steps work out refl few room enough h))
-      (λ h. record { few = few; is = result-placed zs (length zs) steps work out refl few room enough h }))))
+-- a refusal does not accept
+not-stopped : {X : Type 0} {n k : ℕ} {o : Outcome} {r : Refusal} → paperOf (Accepted n k) ≡ answer o → o ≡ stopped r → X
+not-stopped a e = paper-apart values (a ∙ ap answer e)
 
 -- WHERE AN OPERATION ACCEPTS, WHAT IT LEAVES IS A LINK
 module _ {op : Operation} {first second steps work out : List ℕ} {n k : ℕ} {steps′ work′ out′ : List ℕ} (u : Bytes first) (v : Bytes second)
@@ -61,7 +41,7 @@ module _ {op : Operation} {first second steps work out : List ℕ} {n k : ℕ} {
       ap (λ (x : Verdict). onVerdicts op x (verdict second) (length steps) (length work) (length out)) f
       ∙ ap (λ (x : Verdict). onVerdicts op (taken xs) x (length steps) (length work) (length out)) s
       in
-      let m = made-result (resultOf op xs ys) (length steps) (length work) (length out) (p .answers ∙ ap answer e) in
+      let m = accepted-placed (resultOf op xs ys) _ _ _ (sym (ap (λ (q : Paper). q .accepted) (p .answers ∙ ap answer e))) in
       record {
         first = xs;
         second = ys;

@@ -23,8 +23,8 @@ use Rattle.write.specs.Written.{imageFor}
 use Rattle.write.specs.Promise.{paperOf}
 use Rattle.write.specs.Promise as writing
 use Rattle.write.proofs.Outcomes.{outcome-unplaced, outcome-placed}
-use Rattle.pair.specs.declared.Operation.{Operation}
-use Rattle.pair.specs.Result.{resultOf}
+use Rattle.result.specs.declared.Operation.{Operation}
+use Rattle.result.specs.Result.{resultOf}
 use Rattle.pair.specs.Promise.{Outcome, stopped, unplaced, placed, onResult, onVerdicts, outcome, answer, stepsAfter, workAfter, outAfter, Promise}
 
 module _ {op : Operation} {first second steps work out : List ℕ} where
@@ -92,6 +92,35 @@ module _ (zs : List ℕ) (n steps work out : ℕ) (c : n ≡ length zs) where
 
         pub result-placed : length (imageFor zs) ≤ out → onResult zs steps work out ≡ placed zs
         result-placed h = result-out ∙ rw (le-ltb out (length (imageFor zs)) h)
+
+-- a result for which there was room
+pub record Placed (zs : List ℕ) (steps work out : ℕ) : Type 0 where
+  pub few : length zs ≤ mostSteps
+  pub steps-room : length zs ≤ steps
+  pub work-room : workFor (length zs) ≤ work
+  pub out-room : length (imageFor zs) ≤ out
+  pub is : onResult zs steps work out ≡ placed zs
+
+-- THERE WAS ROOM WHERE THE ANSWER ACCEPTS
+pub accepted-placed : (zs : List ℕ) (steps work out : ℕ) → answer (onResult zs steps work out) .accepted ≡ 1 → Placed zs steps work out
+accepted-placed zs steps work out a =
+    by-lt mostSteps n (λ h. stops (result-many zs n steps work out refl h))
+    (λ few. by-lt steps n (λ h. stops (result-steps zs n steps work out refl few h))
+    (λ s. by-lt work (workFor n) (λ h. stops (result-work zs n steps work out refl few s h))
+    (λ w. by-lt out (length (imageFor zs)) (λ h. refuses (at (result-unplaced zs n steps work out refl few s w h)))
+    (λ h. record { few = few; steps-room = s; work-room = w; out-room = h; is = result-placed zs n steps work out refl few s w h }))))
+  where
+    n : ℕ
+    n = length zs
+
+    at : {o : Outcome} → onResult zs steps work out ≡ o → answer o .accepted ≡ 1
+    at e = subst (λ (o : Outcome). answer o .accepted ≡ 1) e a
+
+    refuses : {X : Type 0} → _≡_ {A = ℕ} 0 1 → X
+    refuses z = absurd (omega (arith, z))
+
+    stops : {X : Type 0} {r : Refusal} → onResult zs steps work out ≡ stopped r → X
+    stops e = refuses (at e)
 
 -- the result `zs` of `n` steps was stored and then written
 module _ (op : Operation) (first second steps work out zs : List ℕ) (n : ℕ) (c : n ≡ length zs) {a : Counted} {steps′ work′ out′ : List ℕ} where

@@ -5,8 +5,8 @@ use lib.ListN.{length}
 use Rattle.rules.specs.Limits.{mostSteps}
 use Rattle.rules.specs.Sizes.{workFor}
 use Rattle.image.specs.Taken.{stepsOf, Taken}
-use Rattle.pair.specs.declared.Operation.{Operation}
-use Rattle.pair.specs.Result.{resultOf}
+use Rattle.result.specs.declared.Operation.{Operation}
+use Rattle.result.specs.Result.{resultOf}
 
 -- the result has no more steps than a list may have, and a step buffer and a work area of these lengths have room for it
 pub record Roomy (op : Operation) (first second : List ℕ) (steps work : ℕ) : Type 0 where

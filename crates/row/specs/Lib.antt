@@ -1,4 +1,2 @@
 pub mod Row
 pub mod Words
-pub mod Groups
-pub mod Marks

@@ -21,8 +21,8 @@ use Rattle.write.specs.declared.Counted.the-variants as counted
 use Rattle.write.specs.Written.{imageFor}
 use Rattle.write.specs.Promise.{answer, outAfter}
 use Rattle.write.proofs.Outcomes.{outcome-placed}
-use Rattle.pair.specs.declared.Operation.{Operation}
-use Rattle.pair.specs.Result.{resultOf}
+use Rattle.result.specs.declared.Operation.{Operation}
+use Rattle.result.specs.Result.{resultOf}
 use Rattle.pair.specs.Promise as pair
 use Rattle.pair.proofs.Outcomes.{result-placed}
 use Rattle.demands.specs.Promises.{Read, Write, Pair}

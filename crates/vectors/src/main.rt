@@ -10,8 +10,8 @@ use ask::Placed;
 use ask::Ranked;
 use clock::Clocked;
 use libc::STDOUT_FILENO;
-use pair::Operation;
 use read::Checked;
+use result::Operation;
 use write::Counted;
 
 // The places of each buffer that is lent: enough for the longest example, of 17 steps.

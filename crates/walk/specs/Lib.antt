@@ -1,4 +1,3 @@
 pub mod Blocks
 pub mod Walk
 pub mod Turns
-pub mod Fill

@@ -1,4 +1,4 @@
--- What the functions below `past` promise each other: a move within the loaded word or to a code of one byte, and the turn that reads on
+-- What the functions below `next` promise each other: a move within the loaded word or to a code of one byte, and the turn that reads on
 -- where no such move is left.
 use mathlib.Core.Path.{_≡_}
 use mathlib.Core.List.{List, [], _∷_, _++_}
@@ -71,22 +71,19 @@ pub record Turned (s pay : List ℕ) (p : Rest) (r : Walk) : Type 0 where
   pub stands : Stands s pay r
   pub is : ahead s pay r ≡ onward s pay p
 
--- the walk `v` has passed `x` in the open block where `w` stood there, else it has the same steps ahead
-pub record Slid (pay : List ℕ) (w : Walk) (x : ℕ) (v : Walk) : Type 0 where
+-- the walk `v` stands at the step after that of `w`, in the open block
+pub record Slid (pay : List ℕ) (w v : Walk) : Type 0 where
   pub block : v .block ≡ w .block
   pub end : v .end ≡ w .end
   pub placed : Placed pay v
-  pub taken : w .step ≡ x → (v .step < noStep) × (here pay w ≡ v .step ∷ here pay v)
-  pub kept : (w .step ≡ x → ⊥) → (v .step ≡ w .step) × (here pay v ≡ here pay w)
+  pub on : v .step < noStep
+  pub is : here pay w ≡ v .step ∷ here pay v
 
 -- a move within the loaded word: out of it where no one is left
-abbrev pub wordMove : Walk → ℕ → Move
-wordMove w bits = pick (eqb bits 0) Out (To (metWalk (w .low) bits (w .at) (w .end) (w .block)))
-
-abbrev pub bitMove : Walk → ℕ → Move
-bitMove w x = wordMove w (pick (eqb (w .step) x) (others (w .bits)) (w .bits))
+abbrev pub bitMove : Walk → Move
+bitMove w = pick (eqb (others (w .bits)) 0) Out (To (metWalk (w .low) (others (w .bits)) (w .at) (w .end) (w .block)))
 
 -- a move: to a walk, or out of what is loaded
-abbrev pub Moves : List ℕ → Walk → ℕ → Move → Type 0
-Moves pay w x (To v) = Slid pay w x v
-Moves pay w x Out = (w .step ≡ x) × (here pay w ≡ left pay (restOf w))
+abbrev pub Moves : List ℕ → Walk → Move → Type 0
+Moves pay w (To v) = Slid pay w v
+Moves pay w Out = here pay w ≡ left pay (restOf w)

@@ -1,4 +1,4 @@
--- A walk: the steps that it has ahead, where it can stand, and what passing a step does.
+-- A walk: the steps that it has ahead, where it can stand, and what a move does.
 use mathlib.Core.Path.{_≡_}
 use mathlib.Core.List.{List, [], _∷_, _++_}
 use Prim.Native.Nat.{ℕ, _+_, _-_, _*_, _^_, _≤_, _<_}
@@ -73,8 +73,6 @@ pub record Stands (s pay : List ℕ) (w : Walk) : Type 0 where
   pub blocks : Blocks s pay (w .block) (w .end)
   pub last : w .step < noStep → beyond (w .step + 1) (here pay w) ≡ beforeAt s (w .block) .next
 
--- the walk `r` has passed `x` where `w` stood there; else it has the same steps ahead
-pub record Passes (s pay : List ℕ) (w : Walk) (x : ℕ) (r : Walk) : Type 0 where
-  pub stands : Stands s pay r
-  pub taken : w .step ≡ x → ahead s pay w ≡ x ∷ ahead s pay r
-  pub kept : (w .step ≡ x → ⊥) → ahead s pay w ≡ ahead s pay r
+-- the walk `r` stands at the step after that of `w`
+abbrev pub Follows : List ℕ → List ℕ → Walk → Walk → Type 0
+Follows s pay w r = Stands s pay r × (ahead s pay w ≡ w .step ∷ ahead s pay r)

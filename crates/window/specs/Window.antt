@@ -11,6 +11,10 @@ unfoldable pub wordsFrom : ℕ → ℕ → List ℕ → List ℕ
 wordsFrom zero o xs = []
 wordsFrom (suc k) o xs = bitsOf wordBits o xs ∷ wordsFrom k (o + wordBits) xs
 
--- the words became others, which say, whatever the window's first step `o`, the steps that they said and those of `new o`
+-- the words of a window from `o` on became others, which say the steps that they said and the new ones
+abbrev pub Gains : ℕ → List ℕ → List ℕ → List ℕ → Type 0
+Gains o words new words′ = (xs : List ℕ) → words ≡ wordsFrom (length words) o xs → words′ ≡ wordsFrom (length words) o (xs ++ new)
+
+-- the same whatever the window's first step is, which the new ones go by
 abbrev pub Adds : List ℕ → (ℕ → List ℕ) → List ℕ → Type 0
-Adds words new words′ = (o : ℕ) (xs : List ℕ) → words ≡ wordsFrom (length words) o xs → words′ ≡ wordsFrom (length words) o (xs ++ new o)
+Adds words new words′ = (o : ℕ) → Gains o words (new o) words′

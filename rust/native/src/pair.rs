@@ -188,6 +188,8 @@ trait Operation {
     fn keeps(first: u32, second: u32) -> bool;
     /// Whether nothing can follow, given which of the images are at their end.
     fn is_over(first: bool, second: bool) -> bool;
+    /// No result has more steps, given the numbers of theirs.
+    fn most(first: u32, second: u32) -> u32;
 }
 
 struct Both;
@@ -208,6 +210,9 @@ impl Operation for Both {
     fn window(first: Option<u32>, second: Option<u32>) -> Option<u32> {
         Some(first?.max(second?))
     }
+    fn most(first: u32, second: u32) -> u32 {
+        first.min(second)
+    }
 }
 
 impl Operation for Either {
@@ -224,10 +229,13 @@ impl Operation for Either {
     fn window(first: Option<u32>, second: Option<u32>) -> Option<u32> {
         first.into_iter().chain(second).min()
     }
+    fn most(first: u32, second: u32) -> u32 {
+        first + second
+    }
 }
 
 impl Operation for Without {
-    const THIN: u32 = 60;
+    const THIN: u32 = 14;
     fn join(first: u64, second: u64) -> u64 {
         first & !second
     }
@@ -238,6 +246,9 @@ impl Operation for Without {
         first
     }
     fn window(first: Option<u32>, _: Option<u32>) -> Option<u32> {
+        first
+    }
+    fn most(first: u32, _: u32) -> u32 {
         first
     }
 }
@@ -298,21 +309,24 @@ fn pair<O: Operation>(
     let is_thin = span / O::THIN > in_first + in_second;
     let (first, second) = (Walk::new(first), Walk::new(second));
 
-    // Nothing is stored before the result's length is known.
-    let mut count = 0;
-    if is_thin {
-        merge::<O>(first.clone(), second.clone(), |kept| count += kept.len());
-    } else {
-        windows::<O>(first.clone(), second.clone(), |_, window| count += ones(window));
-    }
-    if count > MOST_STEPS {
-        return Err(Refusal::new(13, 0));
-    }
-    if steps.len() < count {
-        return Err(Refusal::new(16, count));
-    }
-    if work.len() < work_for(count) {
-        return Err(Refusal::new(14, work_for(count)));
+    // Buffers that hold any result need no count before the first step is stored.
+    let most = O::most(in_first, in_second) as usize;
+    if most > MOST_STEPS || steps.len() < most || work.len() < work_for(most) {
+        let mut count = 0;
+        if is_thin {
+            merge::<O>(first.clone(), second.clone(), |kept| count += kept.len());
+        } else {
+            windows::<O>(first.clone(), second.clone(), |_, window| count += ones(window));
+        }
+        if count > MOST_STEPS {
+            return Err(Refusal::new(13, 0));
+        }
+        if steps.len() < count {
+            return Err(Refusal::new(16, count));
+        }
+        if work.len() < work_for(count) {
+            return Err(Refusal::new(14, work_for(count)));
+        }
     }
 
     let mut count = 0;

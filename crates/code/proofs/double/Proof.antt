@@ -1,24 +1,10 @@
 -- `code::double` meets its contract: a byte with the flag, which is not the flag alone, and one without it are a code of two bytes, and the
 -- number of values is no value. Assumes nothing.
-use mathlib.Core.Path.{_≡_, sym, ap, _∙_}
-use mathlib.Core.List.{List, _∷_}
-use Prim.Native.Nat.{ℕ, _+_, _-_, _*_, _<_}
 use native.Mathlib.Omega.{arith}
 use borrow.Author.Needs.{needs}
-use lib.ListN.{length, getD, drop}
-use Rattle.lists.proofs.Parts.{drop-one}
-use Rattle.code.specs.declared.Reading.the-variants.{Code}
-use Rattle.code.specs.Code.{oneGroup, flag, readAt}
-use Rattle.code.specs.Code.Inside.{read-first, read-last, read-on}
+use Rattle.code.proofs.Fronts.{read-double}
 use Rattle.code.proofs.double.Statement.{statement}
 use Rattle.code.proofs.double.Tie as tie
-
-read-double : (s : List ℕ) (a b : ℕ) → 1 < length s → a ≡ getD s 0 0 → b ≡ getD s 1 0 → flag < a → b < flag
-    → readAt s 0 ≡ Code ((a - flag) * oneGroup + b) 2
-read-double s a b h ea eb g l =
-    let one : drop 0 s ≡ a ∷ drop 1 s = drop-one s 0 0 (omega arith) ∙ ap (λ (x : ℕ). x ∷ drop 1 s) (sym ea) in
-    let two : drop 1 s ≡ b ∷ drop 2 s = drop-one s 1 0 h ∙ ap (λ (x : ℕ). x ∷ drop 2 s) (sym eb) in
-    read-last two (read-on one (read-first s 0 one (λ z. omega arith)) (omega arith)) l (omega arith) (omega arith)
 
 shared-slice-read-wide : tie.Need-shared-slice-read-wide
 shared-slice-read-wide c = search needs

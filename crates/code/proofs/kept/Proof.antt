@@ -3,8 +3,8 @@ use mathlib.Core.Path.{_≡_}
 use Prim.Native.Nat.{_*_, _/_}
 use native.Mathlib.Omega.{arith}
 use Rattle.code.specs.Code.{flag}
-use Rattle.code.specs.Bytewise.{kept}
-use Rattle.code.proofs.Bytewise.{kept-times, kept-le}
+use Rattle.code.specs.Flagged.{kept}
+use Rattle.code.proofs.Flagged.{kept-times, kept-le}
 use Rattle.code.proofs.kept.Statement.{statement}
 use Rattle.code.proofs.kept.Tie as tie
 

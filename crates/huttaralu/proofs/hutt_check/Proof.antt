@@ -1,7 +1,7 @@
 -- `huttaralu::hutt_check` meets its contract: what it wraps says the answer, and `of_checked` gives its fields. Assumes nothing.
 use mathlib.Core.Path.{ap, _∙_}
 use borrow.Author.Needs.{needs}
-use Rattle.huttaralu.specs.Fields.{countedOf}
+use Rattle.answers.specs.Fields.{countedOf}
 use Rattle.huttaralu.proofs.hutt_check.Statement.{statement}
 use Rattle.huttaralu.proofs.hutt_check.Tie as tie
 

@@ -1,7 +1,7 @@
 -- `huttaralu::hutt_clock_of` meets its contract: what it wraps says the answer, and `of_clocked` gives its fields. Assumes nothing.
 use mathlib.Core.Path.{ap, _∙_}
 use borrow.Author.Needs.{needs}
-use Rattle.huttaralu.specs.Fields.{clockOf}
+use Rattle.answers.specs.Fields.{clockOf}
 use Rattle.huttaralu.proofs.hutt_clock_of.Statement.{statement}
 use Rattle.huttaralu.proofs.hutt_clock_of.Tie as tie
 

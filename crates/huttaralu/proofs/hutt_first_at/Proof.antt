@@ -1,7 +1,7 @@
 -- `huttaralu::hutt_first_at` meets its contract: what it wraps says the answer, and `of_first` gives its fields. Assumes nothing.
 use mathlib.Core.Path.{ap, _∙_}
 use borrow.Author.Needs.{needs}
-use Rattle.huttaralu.specs.Fields.{firstOf}
+use Rattle.answers.specs.Fields.{firstOf}
 use Rattle.huttaralu.proofs.hutt_first_at.Statement.{statement}
 use Rattle.huttaralu.proofs.hutt_first_at.Tie as tie
 

@@ -1,7 +1,7 @@
 -- `huttaralu::hutt_rank` meets its contract: what it wraps says the answer, and `of_ranked` gives its fields. Assumes nothing.
 use mathlib.Core.Path.{ap, _∙_}
 use borrow.Author.Needs.{needs}
-use Rattle.huttaralu.specs.Fields.{rankedOf}
+use Rattle.answers.specs.Fields.{rankedOf}
 use Rattle.huttaralu.proofs.hutt_rank.Statement.{statement}
 use Rattle.huttaralu.proofs.hutt_rank.Tie as tie
 

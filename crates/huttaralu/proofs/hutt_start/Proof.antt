@@ -1,7 +1,7 @@
 -- `huttaralu::hutt_start` meets its contract: what it wraps says the answer, and `of_placed` gives its fields. Assumes nothing.
 use mathlib.Core.Path.{ap, _∙_}
 use borrow.Author.Needs.{needs}
-use Rattle.huttaralu.specs.Fields.{movedOf}
+use Rattle.answers.specs.Fields.{movedOf}
 use Rattle.huttaralu.proofs.hutt_start.Statement.{statement}
 use Rattle.huttaralu.proofs.hutt_start.Tie as tie
 

@@ -6,8 +6,8 @@ use lib.ListN.{length, take}
 use Rattle.rules.specs.Listed.{Listed}
 use Rattle.image.specs.Taken.{stepsOf}
 use Rattle.image.proofs.Taken.{steps-listed}
-use Rattle.pair.specs.Result.{resultOf}
-use Rattle.pair.proofs.Result.{result-listed}
+use Rattle.result.specs.Result.{resultOf}
+use Rattle.result.proofs.Result.{result-listed}
 use Rattle.pair.proofs.Outcomes.{stored-front, promise-written}
 use Rattle.pair.proofs.stored.Statement.{statement}
 use Rattle.pair.proofs.stored.Tie as tie
@@ -21,22 +21,22 @@ listed c =
     (steps-listed (p .args .second .now) (λ i. omega (arith, c .shared-slice-known2 .given i)) (p .pre .other)) (p .pre .few)
 
 -- the front of the stored steps is the result
-front : (c : tie.After-merge)
+front : (c : tie.After-store)
     → let a = c .before .before .before .before .before .before .before .args in
-    take (c .merge .result) (c .merge .last .1 .1 .1 .1 .0) ≡ resultOf (a .op) (stepsOf (a .first .now)) (stepsOf (a .second .now))
+    take (c .store .result) (c .store .last .1 .1 .1 .1 .0) ≡ resultOf (a .op) (stepsOf (a .first .now)) (stepsOf (a .second .now))
 front c =
     let p = c .before .before .before .before .before .before .before in
     stored-front (p .args .op) (p .args .first .now) (p .args .second .now) (p .args .steps .now) (p .args .work .now) (p .args .out .now) (p .pre .one)
-    (p .pre .other) (c .merge .result) (c .merge .ensures .0) (c .merge .ensures .1)
+    (p .pre .other) (c .store .result) (c .store .ensures .0) (c .store .ensures .1)
 
-merge-requires : tie.Need-merge-requires
-merge-requires c κs = search needs
+store-requires : tie.Need-store-requires
+store-requires c κs = search needs
 
 slice-reshare-prefix-write-listed : tie.Need-slice-reshare-prefix-write-listed
 slice-reshare-prefix-write-listed c = search needs
 
 slice-aggregate-write-listed : tie.Need-slice-aggregate-write-listed
-slice-aggregate-write-listed c = let m = c .before .before .before in omega (arith, ap length (front m), m .merge .ensures .0)
+slice-aggregate-write-listed c = let m = c .before .before .before in omega (arith, ap length (front m), m .store .ensures .0)
 
 write-listed-requires : tie.Need-write-listed-requires
 write-listed-requires c κs =
@@ -61,15 +61,15 @@ returns c =
     let s = m .before .before .before .before .before in
     let p = s .before .before in
     promise-written (p .args .op) (p .args .first .now) (p .args .second .now) (p .args .steps .now) (p .args .work .now) (p .args .out .now) (p .pre .one)
-    (p .pre .other) (m .merge .result) (m .merge .ensures .0) (m .merge .ensures .1) (omega (arith, m .merge .ensures .0, p .pre .few))
-    (omega (arith, m .merge .ensures .0, p .pre .room)) (omega (arith, m .merge .ensures .0, p .pre .enough)) (listed s)
+    (p .pre .other) (m .store .result) (m .store .ensures .0) (m .store .ensures .1) (omega (arith, m .store .ensures .0, p .pre .few))
+    (omega (arith, m .store .ensures .0, p .pre .room)) (omega (arith, m .store .ensures .0, p .pre .enough)) (listed s)
     (c .before .before .before .before .write-listed .ensures)
 
 pub stored-spec : {M : Type 1} → statement M
 stored-spec =
     tie.close
     (tie.spec
-    merge-requires
+    store-requires
     slice-reshare-prefix-write-listed
     slice-aggregate-write-listed
     write-listed-requires

@@ -1,27 +1,33 @@
--- `walk::next_code` meets its contract: by a code of two bytes, or past the walk's step. Assumes nothing.
-use mathlib.Core.Path.{refl, sym, subst}
+-- `walk::next_code` meets its contract: a code of one byte is passed at once, and before another all codes are left. Assumes nothing.
+use mathlib.Core.Path.{sym, subst}
 use native.Mathlib.Omega.{arith}
 use borrow.Author.Needs.{needs}
 use Rattle.rules.specs.Limits.Laws.{largest-coded}
-use Rattle.walk.specs.Walk.{Passes}
-use Rattle.walk.proofs.Passing.{code-next, pass-to}
+use Rattle.walk.specs.Turns.{Slid}
+use Rattle.walk.proofs.Passing.{code-out, code-next}
 use Rattle.walk.proofs.next_code.Statement.{statement}
 use Rattle.walk.proofs.next_code.Tie as tie
 
-double-at-requires : tie.Need-double-at-requires
-double-at-requires c κs = let d = c .before .before in λ h. d .pre .0 .placed .on (d .pre .1 .1) .within
+sub-single : tie.Need-sub-single
+sub-single c = search needs
+
+part-single-start : tie.Need-part-single-start
+part-single-start c = search needs
+
+part-single-end : tie.Need-part-single-end
+part-single-end c = let d = c .before .before in omega (arith, d .pre .0 .on (d .pre .1 .1) .within)
+
+single-requires : tie.Need-single-requires
+single-requires c κs = search needs
 
 add-coded : tie.Need-add-coded
-add-coded c = omega (arith, c .before .before .before .before .before .pre .1 .1, largest-coded)
+add-coded c = omega (arith, c .before .before .before .before .before .before .pre .1 .1, largest-coded)
 
 add-coded-2 : tie.Need-add-coded-2
-add-coded-2 c = omega (arith, c .before .before .before .before .before .pre .1 .1, largest-coded, c .before .if1 .taken)
+add-coded-2 c = omega (arith, c .before .before .before .before .before .before .pre .1 .1, largest-coded, c .before .if2 .taken)
 
 add-coded-3 : tie.Need-add-coded-3
-add-coded-3 c =
-    let d = c .before .before .before .before .before .before in
-    let o = d .pre .0 .placed .on (d .pre .1 .1) in
-    omega (arith, c .before .before .before .double-at .ensures .some (c .before .before .if1 .taken), o .within, o .few)
+add-coded-3 c = search needs
 
 coded-requires : tie.Need-coded-requires
 coded-requires c κs = search needs
@@ -30,27 +36,31 @@ returns : tie.Need-returns
 returns c =
     let d = c .before .before .before .before .before .before .before in
     let a = d .args in
-    let g = c .before .before .before .before .double-at in
-    let h = c .before .before .before .if1 .taken in
-    subst (Passes (a .image .now) (a .payload .now) (a .w) (a .w .step)) (sym (c .coded .ensures))
-    (pass-to (d .pre .0) (d .pre .1 .1)
-    (code-next (a .payload .now) (a .w) (d .pre .0 .placed) (d .pre .1 .0) (g .ensures .some h) (g .result) 2 (λ i. omega (arith, c .before .before .before .before .before .shared-slice-known2 .given i)) (g .ensures .reads h) (a .w .step) refl))
-
-past-requires : tie.Need-past-requires
-past-requires c κs = search needs
+    let g = c .before .before .before .single in
+    subst (Slid (a .payload .now) (a .w)) (sym (c .coded .ensures))
+    (code-next (a .payload .now) (a .w) (d .pre .0) (d .pre .1 .0) (c .before .before .before .before .before .if1 .taken) (g .result) 1
+    (λ i. omega (arith, c .before .before .before .before .before .before .shared-slice-known .given i)) (g .ensures .1 (c .before .before .if2 .taken)))
 
 returns-2 : tie.Need-returns-2
-returns-2 c = search needs
+returns-2 c =
+    let d = c .before .before .before .before .before in
+    code-out (d .args .payload .now) (d .args .w) (d .pre .0) (d .pre .1 .0)
+
+returns-3 : tie.Need-returns-3
+returns-3 c = let d = c .before .before in code-out (d .args .payload .now) (d .args .w) (d .pre .0) (d .pre .1 .0)
 
 pub next-code-spec : {M : Type 1} → statement M
 next-code-spec =
     tie.close
     (tie.spec
-    double-at-requires
+    sub-single
+    part-single-start
+    part-single-end
+    single-requires
     add-coded
     add-coded-2
     add-coded-3
     coded-requires
     returns
-    past-requires
-    returns-2)
+    returns-2
+    returns-3)

@@ -1,0 +1,4 @@
+pub mod Result
+pub mod Turns
+pub mod Merging
+pub mod Sets

@@ -1,0 +1,2 @@
+-- For the proofs of this crate: what the loops go by.
+mod Marking

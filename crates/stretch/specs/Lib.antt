@@ -1,0 +1,2 @@
+pub mod Bytewise
+pub mod Runs
