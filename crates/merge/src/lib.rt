@@ -13,6 +13,7 @@ ghost use Rattle.walk.specs.Blocks.{noStep};
 ghost use Rattle.result.specs.Result.{resultOf};
 ghost use Rattle.merge.specs.Shown.{Merges};
 ghost use Rattle.merge.specs.Round.{Small, Ready, toCome, Goes};
+ghost use Rattle.merge.specs.Counts.{Counts};
 use feed::Feed;
 use result::Operation;
 
@@ -168,36 +169,17 @@ fn round<'a>(
     }
 }
 
-// How many steps the result has, by the buffers of both sides and one for what a round keeps.
-fn count_with<'a>(
-    op: Operation,
-    first: &'a [u8],
-    second: &'a [u8],
-    left: &mut [u32],
-    right: &mut [u32],
-    kept: &mut [u32],
-) -> usize
-    requires { ⌜ Taken (now first) × Taken (now second) ⌝ }
-    requires { ⌜ (Small (now left) × Small (now right)) × (length (now left) ≤ length (now kept)) ⌝ }
-    ensures { λ r. ⌜ r ≡ length (resultOf op (stepsOf (now (first .entry))) (stepsOf (now (second .entry)))) ⌝ }
+// Stores numbers from a place on where there is room for all of them, and else none.
+pub fn put<'a>(numbers: &'a [u32], steps: &mut [u32], at: usize)
+    ensures { λ _. ⌜ (at + length (now (numbers .entry)) ≤ length (now (steps .entry))
+        → now (steps .exit) ≡ sets (now (steps .entry)) at (now (numbers .entry))) ⌝ }
 {
-    let end = (rules::largest_step() as usize) + 1;
-    let one = walk::payload(first);
-    let other = walk::payload(second);
-    let mut m = start(left, right, first, one, second, other);
-    let mut n: usize = 0;
-    while m.next < end {
-        m = round(op, m, left, right, kept, first, one, second, other);
-        n += m.kept;
+    if steps.len() < at {
+        return;
     }
-    n
-}
-
-// Stores numbers from a place on.
-fn put<'a>(numbers: &'a [u32], steps: &mut [u32], at: usize)
-    requires { ⌜ at + length (now numbers) ≤ length (now steps) ⌝ }
-    ensures { λ _. ⌜ now (steps .exit) ≡ sets (now (steps .entry)) at (now (numbers .entry)) ⌝ }
-{
+    if steps.len() - at < numbers.len() {
+        return;
+    }
     let mut i: usize = 0;
     while i < numbers.len() {
         steps[at + i] = numbers[i];
@@ -205,7 +187,7 @@ fn put<'a>(numbers: &'a [u32], steps: &mut [u32], at: usize)
     }
 }
 
-// Stores the steps of the result, by the same buffers, and gives their number.
+// Counts the steps of the result, and stores them where there is room, by the buffers of both sides and one for what a round keeps.
 fn store_with<'a>(
     op: Operation,
     first: &'a [u8],
@@ -216,11 +198,8 @@ fn store_with<'a>(
     kept: &mut [u32],
 ) -> usize
     requires { ⌜ Taken (now first) × Taken (now second) ⌝ }
-    requires { ⌜ length (resultOf op (stepsOf (now first)) (stepsOf (now second))) ≤ length (now steps) ⌝ }
     requires { ⌜ (Small (now left) × Small (now right)) × (length (now left) ≤ length (now kept)) ⌝ }
-    ensures { λ r. ⌜ (r ≡ length (resultOf op (stepsOf (now (first .entry))) (stepsOf (now (second .entry)))))
-        × (now (steps .exit) ≡ resultOf op (stepsOf (now (first .entry))) (stepsOf (now (second .entry)))
-        ++ drop (length (resultOf op (stepsOf (now (first .entry))) (stepsOf (now (second .entry))))) (now (steps .entry))) ⌝ }
+    ensures { λ r. ⌜ Counts op (now (first .entry)) (now (second .entry)) (now (steps .entry)) r (now (steps .exit)) ⌝ }
 {
     let end = (rules::largest_step() as usize) + 1;
     let one = walk::payload(first);
@@ -236,15 +215,15 @@ fn store_with<'a>(
     n
 }
 
-// How many steps the result has.
-pub fn count<'a>(op: Operation, first: &'a [u8], second: &'a [u8]) -> usize
+// How many steps the result has. They are stored in front of `steps` where it has room for all of them; else what then stands there is loose.
+pub fn count<'a>(op: Operation, first: &'a [u8], second: &'a [u8], steps: &mut [u32]) -> usize
     requires { ⌜ Taken (now first) × Taken (now second) ⌝ }
-    ensures { λ r. ⌜ r ≡ length (resultOf op (stepsOf (now (first .entry))) (stepsOf (now (second .entry)))) ⌝ }
+    ensures { λ r. ⌜ Counts op (now (first .entry)) (now (second .entry)) (now (steps .entry)) r (now (steps .exit)) ⌝ }
 {
     let mut left: [u32; BATCH] = [0; BATCH];
     let mut right: [u32; BATCH] = [0; BATCH];
     let mut kept: [u32; BATCH] = [0; BATCH];
-    count_with(op, first, second, &mut left, &mut right, &mut kept)
+    store_with(op, first, second, steps, &mut left, &mut right, &mut kept)
 }
 
 // Stores the steps of the result, and gives their number.
@@ -255,8 +234,5 @@ pub fn store<'a>(op: Operation, first: &'a [u8], second: &'a [u8], steps: &mut [
         × (now (steps .exit) ≡ resultOf op (stepsOf (now (first .entry))) (stepsOf (now (second .entry)))
         ++ drop (length (resultOf op (stepsOf (now (first .entry))) (stepsOf (now (second .entry))))) (now (steps .entry))) ⌝ }
 {
-    let mut left: [u32; BATCH] = [0; BATCH];
-    let mut right: [u32; BATCH] = [0; BATCH];
-    let mut kept: [u32; BATCH] = [0; BATCH];
-    store_with(op, first, second, steps, &mut left, &mut right, &mut kept)
+    count(op, first, second, steps)
 }

@@ -3,3 +3,4 @@ pub mod Decides
 pub mod Links
 pub mod Chains
 pub mod Algebra
+mod Holding

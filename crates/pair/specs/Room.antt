@@ -1,7 +1,8 @@
--- Room for the result of two accepted images.
+-- Room for the result of two accepted images, and a short buffer that holds it.
+use mathlib.Core.Path.{_≡_}
 use mathlib.Core.List.{List}
 use Prim.Native.Nat.{ℕ, _≤_}
-use lib.ListN.{length}
+use lib.ListN.{length, take}
 use Rattle.rules.specs.Limits.{mostSteps}
 use Rattle.rules.specs.Sizes.{workFor}
 use Rattle.image.specs.Taken.{stepsOf, Taken}
@@ -15,3 +16,8 @@ pub record Roomy (op : Operation) (first second : List ℕ) (steps work : ℕ) :
   pub few : length (resultOf op (stepsOf first) (stepsOf second)) ≤ mostSteps
   pub room : length (resultOf op (stepsOf first) (stepsOf second)) ≤ steps
   pub enough : workFor (length (resultOf op (stepsOf first) (stepsOf second))) ≤ work
+
+-- the result has `n` steps, and they stand in front of `few` where it has room for all of them
+pub record Held (op : Operation) (first second : List ℕ) (n : ℕ) (few : List ℕ) : Type 0 where
+  pub counted : n ≡ length (resultOf op (stepsOf first) (stepsOf second))
+  pub kept : n ≤ length few → take n few ≡ resultOf op (stepsOf first) (stepsOf second)

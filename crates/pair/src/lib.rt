@@ -1,6 +1,7 @@
 // Both, either and first-without-second of two images. The result is counted and stored window by window; where steps are thin, and a window
 // would be nearly empty, the two are merged step by step instead. Neither way copies a list. It is counted first, so that its length is known
-// before anything is stored, and a refusal changes nothing; then its steps are stored, and written as any list is.
+// before anything is stored, and a refusal changes nothing; then its steps are stored, and written as any list is. A merge that counts keeps a
+// short result, so that storing it is a copy.
 
 ghost use mathlib.Core.Path.{_≡_};
 ghost use mathlib.Core.List.{_++_};
@@ -12,7 +13,7 @@ ghost use Rattle.write.specs.declared.Counted.the-variants.{Refused};
 ghost use Rattle.result.specs.declared.Operation.the-variants.{Both, Either, Without};
 ghost use Rattle.result.specs.Result.{resultOf};
 ghost use Rattle.pair.specs.Promise.{Promise};
-ghost use Rattle.pair.specs.Room.{Roomy};
+ghost use Rattle.pair.specs.Room.{Roomy, Held};
 use read::Checked;
 use result::Operation;
 use rules::Refusal;
@@ -23,13 +24,16 @@ const FIRST_SIDE: u32 = 1;
 const SECOND_SIDE: u32 = 2;
 
 // With more places to a step than this, it is faster to merge than to go by windows: in counting, and in storing what an operation keeps.
-const THIN_TO_COUNT: usize = 100;
+const THIN_TO_COUNT: usize = 40;
 
 const THIN_FOR_BOTH: usize = 64;
 
 const THIN_FOR_EITHER: usize = 12;
 
 const THIN_FOR_WITHOUT: usize = 24;
+
+// The numbers of the buffer in which a merge that counts keeps its result.
+const FEW: usize = 2048;
 
 // The last step of an accepted image, and 0 where it has none.
 fn last_step(image: &[u8]) -> usize
@@ -66,53 +70,103 @@ fn thin_for(op: Operation) -> usize
     }
 }
 
-// How many steps the result of two images of `all` steps together has.
-fn count<'a>(op: Operation, all: usize, first: &'a [u8], second: &'a [u8]) -> usize
+// How many of `most` numbers to lend for keeping the result of two images of `all` steps together: none where it is counted by windows.
+fn lent<'a>(most: usize, all: usize, first: &'a [u8], second: &'a [u8]) -> usize
     requires { ⌜ Taken (now first) × Taken (now second) ⌝ }
-    ensures { λ r. ⌜ r ≡ length (resultOf op (stepsOf (now (first .entry))) (stepsOf (now (second .entry)))) ⌝ }
+    ensures { λ r. ⌜ r ≤ most ⌝ }
 {
     if thin(THIN_TO_COUNT, all, first, second) {
-        return merge::count(op, first, second);
+        return most;
     }
-    windows::count(op, first, second)
+    0
 }
 
-// Stores the steps of the result of two images of `all` steps together, and gives their number.
+// How many steps the result of two images has. They are kept in `few` where it has room for all of them.
+fn count<'a>(op: Operation, first: &'a [u8], second: &'a [u8], few: &mut [u32]) -> usize
+    requires { ⌜ Taken (now first) × Taken (now second) ⌝ }
+    ensures { λ r. ⌜ Held op (now (first .entry)) (now (second .entry)) r (now (few .exit)) ⌝ }
+{
+    if few.len() == 0 {
+        return windows::count(op, first, second);
+    }
+    merge::count(op, first, second, few)
+}
+
+// Stores the `n` steps of the result of two images of `all` steps together, which `few` holds where it has room for them.
 fn store<'a>(
     op: Operation,
     all: usize,
+    n: usize,
     first: &'a [u8],
     second: &'a [u8],
+    few: &'a [u32],
     steps: &mut [u32],
 ) -> usize
-    requires { ⌜ Taken (now first) × Taken (now second) ⌝ }
+    requires { ⌜ (Taken (now first) × Taken (now second)) × Held op (now first) (now second) n (now few) ⌝ }
     requires { ⌜ length (resultOf op (stepsOf (now first)) (stepsOf (now second))) ≤ length (now steps) ⌝ }
     ensures { λ r. ⌜ (r ≡ length (resultOf op (stepsOf (now (first .entry))) (stepsOf (now (second .entry)))))
         × (now (steps .exit) ≡ resultOf op (stepsOf (now (first .entry))) (stepsOf (now (second .entry)))
         ++ drop (length (resultOf op (stepsOf (now (first .entry))) (stepsOf (now (second .entry))))) (now (steps .entry))) ⌝ }
 {
+    if n <= few.len() {
+        merge::put(&few[..n], steps, 0);
+        return n;
+    }
     if thin(thin_for(op), all, first, second) {
         return merge::store(op, first, second, steps);
     }
     windows::store(op, first, second, steps)
 }
 
-// Stores and writes the result of two images of `all` steps together, for which there is room.
+// Stores and writes the result of two images of `all` steps together, for which there is room: `n` steps, which `few` holds where it can.
 fn stored<'a>(
     op: Operation,
     all: usize,
+    n: usize,
     first: &'a [u8],
     second: &'a [u8],
+    few: &'a [u32],
     steps: &mut [u32],
     work: &mut [u32],
     out: &mut [u8],
 ) -> Counted
     requires { ⌜ Roomy op (now first) (now second) (length (now steps)) (length (now work)) ⌝ }
+    requires { ⌜ Held op (now first) (now second) n (now few) ⌝ }
     ensures { λ r. ⌜ Promise op (now (first .entry)) (now (second .entry)) (now (steps .entry)) (now (work .entry)) (now (out .entry)) r
         (now (steps .exit)) (now (work .exit)) (now (out .exit)) ⌝ }
 {
-    let n = store(op, all, first, second, steps);
-    write::write_listed(&steps[..n], work, out)
+    let k = store(op, all, n, first, second, few, steps);
+    write::write_listed(&steps[..k], work, out)
+}
+
+// Counts the result of two images of `all` steps together, and stores and writes it unless something is too short; by a buffer for the steps
+// of a short result.
+fn counted_with<'a>(
+    op: Operation,
+    all: usize,
+    first: &'a [u8],
+    second: &'a [u8],
+    few: &mut [u32],
+    steps: &mut [u32],
+    work: &mut [u32],
+    out: &mut [u8],
+) -> Counted
+    requires { ⌜ Taken (now first) × Taken (now second) ⌝ }
+    ensures { λ r. ⌜ Promise op (now (first .entry)) (now (second .entry)) (now (steps .entry)) (now (work .entry)) (now (out .entry)) r
+        (now (steps .exit)) (now (work .exit)) (now (out .exit)) ⌝ }
+{
+    let n = count(op, first, second, few);
+    if n > rules::most_steps() {
+        return write::refuse(rules::TOO_MANY_STEPS, 0);
+    }
+    if steps.len() < n {
+        return write::refuse(rules::STEPS_TOO_SHORT, n);
+    }
+    let need = rules::work_for(n);
+    if work.len() < need {
+        return write::refuse(rules::WORK_TOO_SHORT, need);
+    }
+    stored(op, all, n, first, second, few, steps, work, out)
 }
 
 // Counts the result of two images of `all` steps together, and stores and writes it unless something is too short.
@@ -129,18 +183,9 @@ fn counted<'a>(
     ensures { λ r. ⌜ Promise op (now (first .entry)) (now (second .entry)) (now (steps .entry)) (now (work .entry)) (now (out .entry)) r
         (now (steps .exit)) (now (work .exit)) (now (out .exit)) ⌝ }
 {
-    let n = count(op, all, first, second);
-    if n > rules::most_steps() {
-        return write::refuse(rules::TOO_MANY_STEPS, 0);
-    }
-    if steps.len() < n {
-        return write::refuse(rules::STEPS_TOO_SHORT, n);
-    }
-    let need = rules::work_for(n);
-    if work.len() < need {
-        return write::refuse(rules::WORK_TOO_SHORT, need);
-    }
-    stored(op, all, first, second, steps, work, out)
+    let mut few: [u32; FEW] = [0; FEW];
+    let k = lent(FEW, all, first, second);
+    counted_with(op, all, first, second, &mut few[..k], steps, work, out)
 }
 
 // A refusal of one of the two images.

@@ -16,10 +16,21 @@ Inv-loop numbers steps₀ at i₀ steps i = (i ≤ length numbers) × Storing st
 abbrev μ-loop : tie.MeasureT-loop
 μ-loop numbers steps₀ at i₀ steps i = length numbers - i
 
+returns : tie.Need-returns Inv-loop μ-loop
+returns c h = absurd (omega (arith, c .if1 .taken))
+
+sub-if2 : tie.Need-sub-if2 Inv-loop μ-loop
+sub-if2 c = search needs
+
+returns-2 : tie.Need-returns-2 Inv-loop μ-loop
+returns-2 c h = absurd (omega (arith, c .before .if1 .left, c .if2 .taken))
+
 loop-holds : tie.Need-loop-holds Inv-loop μ-loop
 loop-holds c =
-    let a = c .args in
-    (omega arith, storing-run (storing-start (a .steps .now) (a .at) (a .numbers .now) (c .pre)) [] (a .numbers .now) refl refl refl)
+    let a = c .before .before .args in (
+      omega arith,
+      storing-run (storing-start (a .steps .now) (a .at) (a .numbers .now) (omega (arith, c .before .if1 .left, c .if2 .left))) [] (a .numbers .now) refl refl refl,
+    )
 
 mul-steps : tie.Need-mul-steps Inv-loop μ-loop
 mul-steps c = search needs
@@ -45,7 +56,7 @@ loop-less c = search needs
 loop-again : tie.Need-loop-again Inv-loop μ-loop
 loop-again c =
     let l = c .before .before .loop in
-    let numbers = c .before .before .before .args .numbers .now in (
+    let numbers = c .before .before .before .before .before .args .numbers .now in (
       omega arith,
       storing-run (l .inv .1) (getD numbers (l .i) 0 ∷ []) (drop (l .i + 1) numbers) (drop-one numbers (l .i) 0 (omega arith)) (omega arith) refl,
     )
@@ -53,10 +64,10 @@ loop-again c =
 same-length : tie.Need-same-length Inv-loop μ-loop
 same-length c = c .before .loop .inv .1 .same
 
-returns : tie.Need-returns Inv-loop μ-loop
-returns c =
+returns-3 : tie.Need-returns-3 Inv-loop μ-loop
+returns-3 c h =
     let l = c .before .loop in
-    storing-end (l .inv .1) (drop-of-length-le (c .before .before .args .numbers .now) {i = l .i} (omega arith)) .1
+    storing-end (l .inv .1) (drop-of-length-le (c .before .before .before .before .args .numbers .now) {i = l .i} (omega arith)) .1
 
 pub put-spec : {M : Type 1} → statement M
 put-spec =
@@ -64,6 +75,9 @@ put-spec =
     (tie.spec
     Inv-loop
     μ-loop
+    returns
+    sub-if2
+    returns-2
     loop-holds
     mul-steps
     shared-slice-read-steps
@@ -74,4 +88,4 @@ put-spec =
     loop-less
     loop-again
     same-length
-    returns)
+    returns-3)

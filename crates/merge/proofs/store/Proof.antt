@@ -1,36 +1,19 @@
--- `merge::store` meets its contract. Assumes nothing.
+-- `merge::store` meets its contract: there is room. Assumes nothing.
 use native.Mathlib.Omega.{arith}
 use borrow.Author.Needs.{needs}
 use Rattle.merge.proofs.store.Statement.{statement}
 use Rattle.merge.proofs.store.Tie as tie
 
-slice-aggregate-store-with : tie.Need-slice-aggregate-store-with
-slice-aggregate-store-with c = search needs
-
-slice-aggregate-store-with-2 : tie.Need-slice-aggregate-store-with-2
-slice-aggregate-store-with-2 c = search needs
-
-slice-aggregate-store-with-3 : tie.Need-slice-aggregate-store-with-3
-slice-aggregate-store-with-3 c = search needs
-
-store-with-requires : tie.Need-store-with-requires
-store-with-requires c κs =
-    let p = c .before .before .before .before .before .before .before .pre in
-    (p .0, (p .1, (((omega arith, omega arith), (omega arith, omega arith)), omega arith)))
+count-requires : tie.Need-count-requires
+count-requires c κs = search needs
 
 same-length : tie.Need-same-length
 same-length c = search needs
 
 returns : tie.Need-returns
-returns c = search needs
+returns c =
+    let r = c .before .before .count .ensures in
+    (r .counted, r .kept (omega (arith, r .counted, c .before .before .before .before .before .before .before .pre .1)))
 
 pub store-spec : {M : Type 1} → statement M
-store-spec =
-    tie.close
-    (tie.spec
-    slice-aggregate-store-with
-    slice-aggregate-store-with-2
-    slice-aggregate-store-with-3
-    store-with-requires
-    same-length
-    returns)
+store-spec = tie.close (tie.spec count-requires same-length returns)

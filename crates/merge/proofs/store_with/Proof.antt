@@ -1,23 +1,24 @@
--- `merge::store_with` meets its contract. The invariant: all of the result but what is to come is stored. Assumes nothing.
+-- `merge::store_with` meets its contract. The invariant: all of the result but what is to come was counted, and is stored where there is room.
+-- Assumes nothing.
 use mathlib.Core.Path.{_≡_, refl, sym, _∙_}
 use Prim.Native.Nat.{_≤_}
 use native.Mathlib.Omega.{arith}
 use borrow.Author.Needs.{needs}
 use lib.ListN.{length, take, length-take}
-use Rattle.lists.proofs.Stores.{Storing, storing-start, storing-run, storing-same, storing-end, sets-front}
 use Rattle.rules.specs.Limits.Laws.{largest-coded}
 use Rattle.image.specs.Taken.{stepsOf}
 use Rattle.walk.specs.Blocks.{noStep}
 use Rattle.result.specs.Result.{resultOf}
 use Rattle.merge.specs.Round.{resultToCome, stepsToCome}
 use Rattle.merge.proofs.Coming.{ready-end, start-is, Rounds, rounds-start, rounds-turn, rounds-counted}
+use Rattle.merge.proofs.Keeping.{Keeping, keeping-start, keeping-run, keeping-end}
 use Rattle.merge.proofs.store_with.Statement.{statement}
 use Rattle.merge.proofs.store_with.Tie as tie
 
 abbrev Inv-loop : tie.InvT-loop
 Inv-loop op first second steps₀ left₀ right₀ kept₀ end one other m₀ n₀ steps left right kept m n =
     Rounds op first one second other left₀ right₀ kept₀ m left right kept
-    × Storing steps₀ 0 (resultOf op (stepsOf first) (stepsOf second)) steps n (resultToCome op first one second other m left right)
+    × Keeping steps₀ (resultOf op (stepsOf first) (stepsOf second)) steps n (resultToCome op first one second other m left right)
 
 abbrev μ-loop : tie.MeasureT-loop
 μ-loop op first second steps₀ left₀ right₀ kept₀ end one other m₀ n₀ steps left right kept m n = stepsToCome first one second other m left right
@@ -40,7 +41,7 @@ payload-requires-2 c κs = search needs
 start-requires : tie.Need-start-requires Inv-loop μ-loop
 start-requires c κs =
     let p = c .before .before .before .before .before .before .before .before .before .before .before .pre in
-    ((p .0 .0, c .before .before .before .payload .ensures), ((p .0 .1, c .before .before .payload2 .ensures), p .1 .1 .0))
+    ((p .0 .0, c .before .before .before .payload .ensures), ((p .0 .1, c .before .before .payload2 .ensures), p .1 .0))
 
 loop-holds : tie.Need-loop-holds Inv-loop μ-loop
 loop-holds c =
@@ -48,13 +49,12 @@ loop-holds c =
     let a = p .args in
     let s = c .before .before .before .before .start .ensures in (
       rounds-start (a .op) (a .kept .now) s refl refl,
-      storing-same (storing-start (a .steps .now) 0 (resultOf (a .op) (stepsOf (a .first .now)) (stepsOf (a .second .now))) (omega (arith, p .pre .1 .0)))
-          (sym (start-is (a .op) s)),
+      keeping-start (a .steps .now) (resultOf (a .op) (stepsOf (a .first .now)) (stepsOf (a .second .now))) (sym (start-is (a .op) s)),
     )
 
 round-requires : tie.Need-round-requires Inv-loop μ-loop
 round-requires c κs =
-    let p = c .before .before .before .before .before .before .before .before .before .before .before .before .before .before .before .before .before .before .before .before .before .before .pre .1 .1 in
+    let p = c .before .before .before .before .before .before .before .before .before .before .before .before .before .before .before .before .before .before .before .before .before .before .pre .1 in
     let w = c .before .before .before .before .before .loop .inv .0 in (
       (w .ready, omega (arith, c .before .before .before .before .before .before .before .before .before .before .before .before .before .before .before .largest-step .ensures)),
       (((omega (arith, w .first, p), omega (arith, w .first, p)), (omega (arith, w .second, p), omega (arith, w .second, p))), omega (arith, w .first, w .third, p)),
@@ -71,19 +71,14 @@ slice-aggregate-put c =
     n
 
 put-requires : tie.Need-put-requires Inv-loop μ-loop
-put-requires c κs =
-    let l = c .before .before .before .before .before .before .before .before .before .before .before .before .before .before .loop in
-    let r = c .before .before .before .before .before .before .before .before .round in
-    let a = c .before .before .before .before .before .before .before .before .before .before .before .before .before .before .before .before .before .before .before .before .before .before .before .before .before .before .before .before .before .before .before .args in
-    let n = rounds-counted (r .ensures) (l .n) (resultOf (a .op) (stepsOf (a .first .now)) (stepsOf (a .second .now))) (omega (arith, l .inv .1 .place)) in
-    omega (arith, n, l .inv .1 .place, l .inv .1 .room, r .ensures .within, length-take (r .result .kept) (r .last .1 .1 .1 .1 .0))
+put-requires c κs = search needs
 
 add-n : tie.Need-add-n Inv-loop μ-loop
 add-n c =
     let l = c .before .before .before .before .before .before .before .before .before .before .before .before .before .before .before .before .before .loop in
     let r = c .before .before .before .before .before .before .before .before .before .before .before .round in
     let a = c .before .before .before .before .before .before .before .before .before .before .before .before .before .before .before .before .before .before .before .before .before .before .before .before .before .before .before .before .before .before .before .before .before .before .args in
-    let n = rounds-counted (r .ensures) (l .n) (resultOf (a .op) (stepsOf (a .first .now)) (stepsOf (a .second .now))) (omega (arith, l .inv .1 .place)) in
+    let n = rounds-counted (r .ensures) (l .n) (resultOf (a .op) (stepsOf (a .first .now)) (stepsOf (a .second .now))) (l .inv .1 .counted) in
     omega (arith, n, l .inv .0 .few, largest-coded)
 
 loop-less : tie.Need-loop-less Inv-loop μ-loop
@@ -95,7 +90,7 @@ loop-again c =
     let r = c .before .before .before .before .before .before .before .before .before .before .before .round in
     let kept = r .last .1 .1 .1 .1 .0 in (
       rounds-turn (r .ensures) (l .inv .0) (c .before .before .before .before .before .before .before .before .before .before .left2 .given) (c .before .before .before .before .before .before .before .before .right2 .given) (c .before .before .before .before .before .before .kept .given),
-      storing-run (l .inv .1) (take (r .result .kept) kept) _ (r .ensures .is) (omega (arith, r .ensures .within, length-take (r .result .kept) kept)) (c .before .before .put .ensures),
+      keeping-run (l .inv .1) (take (r .result .kept) kept) _ (r .ensures .is) (omega (arith, r .ensures .within, length-take (r .result .kept) kept)) (c .before .steps .given) (c .before .before .put .ensures),
     )
 
 same-length : tie.Need-same-length Inv-loop μ-loop
@@ -116,10 +111,8 @@ returns c =
     let p = c .before .before .before .before .before .before .before .before .before .before .before .before .before .before .before .before .before .before .before in
     let a = p .args in
     let e : noStep ≤ l .m .next = omega (arith, c .before .before .before .before .before .before .before .before .before .before .before .before .largest-step .ensures) in
-    let s = storing-end (l .inv .1) (ready-end (l .inv .0 .ready) (a .op) e) in (
-      omega (arith, s .0),
-      s .1 ∙ sets-front (a .steps .now) (resultOf (a .op) (stepsOf (a .first .now)) (stepsOf (a .second .now))) (p .pre .1 .0),
-    )
+    let s = keeping-end (l .inv .1) (ready-end (l .inv .0 .ready) (a .op) e) in
+    record { counted = s .0; kept = s .1 }
 
 pub store-with-spec : {M : Type 1} → statement M
 store-with-spec =
