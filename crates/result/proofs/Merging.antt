@@ -6,7 +6,6 @@ use Prim.Native.Nat.{ℕ, suc, _≤_, _<_}
 use native.Mathlib.Omega.{arith}
 use native.Mathlib.Decide.{ℕ-discrete}
 use lib.Dec.{eqb}
-use lib.ListN.{length}
 use borrow.Author.Tests.{eq-eqb, ne-eqb}
 use Rattle.lists.specs.Rising.{Rising, beyond}
 use Rattle.lists.specs.Members.{has}
@@ -23,17 +22,9 @@ pub record Below (o t : ℕ) (xs : List ℕ) : Type 0 where
   pub small : beyond o xs ≤ t
 
 module _ (t : ℕ) where
-  pub head-le : (o : ℕ) (xs : List ℕ) → Below o t xs → headOf t xs ≤ t
-  head-le o [] w = omega arith
-  head-le o (x ∷ xs) w = omega (arith, rising-beyond (suc x) xs (w .rising .1), w .small)
-
   pub head-none : (o : ℕ) (xs : List ℕ) → Below o t xs → t ≤ headOf t xs → xs ≡ []
   head-none o [] w h = refl
   head-none o (x ∷ xs) w h = absurd (omega (arith, rising-beyond (suc x) xs (w .rising .1), w .small))
-
-  pub head-from : (o : ℕ) (xs : List ℕ) → Below o t xs → o ≤ t → o ≤ headOf t xs
-  head-from o [] w h = h
-  head-from o (x ∷ xs) w h = w .rising .0
 
   -- what is left past a step that is not above the first
   module _ (o m : ℕ) (h : m < t) where
@@ -63,18 +54,6 @@ module _ (t : ℕ) where
         by : Dec (x ≡ m) → has m (x ∷ xs) ≡ eqb x m
         by (yes e) = has-here m x xs (sym e) ∙ sym (eq-eqb x m e)
         by (no e) = has-below m x (x ∷ xs) (omega arith, w .rising .1) (omega (arith, e)) ∙ sym (ne-eqb x m e)
-
-    pub past-length : (xs : List ℕ) → length (pastOf m xs) ≤ length xs
-    past-length [] = omega arith
-    past-length (x ∷ xs) = by (ℕ-discrete x m)
-      where
-        by : Dec (x ≡ m) → length (pastOf m (x ∷ xs)) ≤ length (x ∷ xs)
-        by (yes e) = rw (eq-eqb x m e) (omega arith)
-        by (no e) = rw (ne-eqb x m e) (omega arith)
-
-    pub past-less : (xs : List ℕ) → headOf t xs ≡ m → length (pastOf m xs) < length xs
-    past-less [] e = absurd (omega arith)
-    past-less (x ∷ xs) e = rw (eq-eqb x m e) (omega arith)
 
     -- A TURN OF A MERGE
     pub merge-turn : (op : Operation) (xs ys : List ℕ) → Below o t xs → Below o t ys → m ≤ headOf t xs → m ≤ headOf t ys

@@ -3,11 +3,9 @@
 use mathlib.Core.Path.{_≡_, refl, sym, ap, _∙_}
 use mathlib.Core.Bool.{Bool, true, false}
 use mathlib.Core.List.{List, [], _∷_}
-use Prim.Native.Nat.{ℕ, suc, _+_, _<_}
+use Prim.Native.Nat.{ℕ, suc, _<_}
 use native.Mathlib.Omega.{arith}
 use native.Mathlib.Decide.{decLt, ℕ-discrete}
-use mir.Val.{boolByte}
-use lib.ListN.{length}
 use Rattle.lists.specs.Rising.{Rising}
 use Rattle.lists.specs.Members.{has}
 use Rattle.lists.proofs.Rising.{rising-weaken}
@@ -98,8 +96,3 @@ unfolding resultOf sieve
 result-none op = refl
 
 -- ---- how many steps
-
--- a step that is kept counts one
-pub length-kept : (b : Bool) (x : ℕ) (zs : List ℕ) → length (kept b x zs) ≡ boolByte b + length zs
-length-kept true x zs = omega arith
-length-kept false x zs = omega arith
