@@ -8,7 +8,7 @@ A file crates/CRATE/must-fail/LABEL.edit holds one wrong program or several, whi
     old:     let bits = w.bits & (w.bits - 1);
     new:     let bits = w.bits & (w.bits - 0);
 
-A line that begins with # is a program's name. `want:` says where it has to be refused: at a function (`next_bit`, `Walk::next`), or at
+A line that begins with # is a program's name, one that begins with -- says more of it. `want:` says where it has to be refused: at a function (`next_bit`, `Walk::next`), or at
 a law of proofs/ or specs/ with its module (`law Best.best-step`). `file:` holds for the pairs of `old:` and `new:` after it, as `rt must-fail` reads them.
 """
 import pathlib
@@ -82,8 +82,8 @@ def programs_of(edit):
                 continue
             programs[-1].changes.append(Change(file, old, line[4:].removeprefix(" ")))
             old = None
-        elif line.strip():
-            faults.append(f"{where}: neither a name nor 'want:', 'file:', 'old:', 'new:'")
+        elif line.strip() and not line.startswith("-- "):
+            faults.append(f"{where}: neither a name nor 'want:', 'file:', 'old:', 'new:', nor a line that begins with --")
     return programs, faults
 
 
