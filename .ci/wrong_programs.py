@@ -142,9 +142,9 @@ UNPROVED = re.compile(r"^note: (\S+?):(\d+):\d+: (it is not proved that .*?)(?: 
 STATUS = re.compile(r"^fn (\w+)::([\w:]+): (.*)")
 
 # What a check says where a law rests on one that was refused. That shows nothing of the law itself.
-CONSEQUENCE = "was not admitted ("
-# What it says where the edit made the proof file unfit for the code: that a need has another name now shows nothing of the code.
-NAME_ONLY = ("that can be named from here", "is not in scope", "not a field of")
+CONSEQUENCE = "was not admitted"
+# What it says where the edit made the proof file unfit for the code: that a need, a law or a place has another name now shows nothing.
+NAME_ONLY = ("that can be named from here", "is not in scope", "has no field")
 
 
 @dataclass
