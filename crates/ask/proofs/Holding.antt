@@ -20,8 +20,8 @@ use Rattle.image.specs.Entry.{entryPlace, payloadPlace, entriesAt, start, after
 use Rattle.image.specs.Verdict.{taken, directoryOf, blocksOf}
 use Rattle.image.proofs.Verdict.{length-payload, peel}
 use Rattle.image.specs.Taken.{stepsOf, Taken, entriesIn, payloadIn}
-use Rattle.block.specs.Block.{stepsIn, Sound}
-use Rattle.block.proofs.Steps.{length-steps, below-within}
+use Rattle.image_block.specs.Block.{stepsIn, Sound}
+use Rattle.image_block.proofs.Steps.{length-steps, below-within}
 use Rattle.ask.specs.declared.Spot.{Spot}
 use Rattle.ask.specs.declared.Spot.the-variants.{Block, Nowhere}
 use Rattle.ask.specs.Search.{partIn, Inside, spotIn, above, reaches}

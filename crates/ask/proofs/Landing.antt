@@ -21,8 +21,8 @@ use Rattle.image.specs.Entry.{start, afterEntry}
 use Rattle.image.specs.Verdict.{taken, directoryOf, blocksOf}
 use Rattle.image.proofs.Directory.{Clean, directory-clean}
 use Rattle.image.proofs.Blocks.{taken-eq, split}
-use Rattle.block.specs.Block.{stepsIn, Sound}
-use Rattle.block.proofs.Steps.{steps-good, sound-good, length-steps, beyond-steps, rising-steps-in}
+use Rattle.image_block.specs.Block.{stepsIn, Sound}
+use Rattle.image_block.proofs.Steps.{steps-good, sound-good, length-steps, beyond-steps, rising-steps-in}
 use Rattle.ask.specs.declared.Spot.{Spot}
 use Rattle.ask.specs.declared.Spot.the-variants.{Block, Nowhere}
 use Rattle.ask.specs.Search.{spotOf}

@@ -142,7 +142,7 @@ fn step_at(image: &[u8], k: usize) -> usize
     match s {
         Spot::Block { before, entry } => {
             let part = part_of(image, before, entry);
-            block::step_in(part, before, entry, k - before.upto)
+            image_block::step_in(part, before, entry, k - before.upto)
         }
         Spot::Nowhere => 0,
     }
@@ -157,7 +157,7 @@ fn below_at(image: &[u8], n: usize, x: usize) -> usize
     match s {
         Spot::Block { before, entry } => {
             let part = part_of(image, before, entry);
-            before.upto + block::below_in(part, before, entry, x)
+            before.upto + image_block::below_in(part, before, entry, x)
         }
         Spot::Nowhere => n,
     }
@@ -172,7 +172,7 @@ fn first_in(image: &[u8], x: usize) -> First
     match s {
         Spot::Block { before, entry } => {
             let part = part_of(image, before, entry);
-            let f = block::first_in(part, before, entry, x);
+            let f = image_block::first_in(part, before, entry, x);
             let step = f.step as u32;
             let rank = (before.upto + f.index) as u32;
             First::Found(Hit { step, rank })

@@ -4,5 +4,5 @@ use libc::STDIN_FILENO;
 
 // Lists the image on standard input.
 fn main() {
-    lister::run(STDIN_FILENO);
+    blocks_print::run(STDIN_FILENO);
 }

@@ -12,7 +12,7 @@ fn list_file(i: usize) {
         os::fail(&path[..length]);
         return;
     }
-    lister::run(fd);
+    blocks_print::run(fd);
     libc::close(fd);
 }
 

@@ -16,7 +16,7 @@ use Rattle.lists.proofs.Gaps.{length-from-gaps, rising-from-gaps}
 use Rattle.lists.proofs.Below.{below-append}
 use Rattle.code.specs.Code.{codeValues}
 use Rattle.code.specs.Code.Laws.{read-sound}
-use Rattle.stretch.specs.Runs.{Run, sumOf, Passed}
+use Rattle.code_stretch.specs.Runs.{Run, sumOf, Passed}
 use Rattle.codes.specs.Codes.{stepsFrom, listOf, tallyOf, Sound}
 use Rattle.codes.proofs.Codes.{read-passes, rising-steps}
 use Rattle.codes.proofs.Turns.{tally-more, turn}

@@ -79,8 +79,8 @@ pub fn check(part: &[u8], from: usize) -> Tally
     let mut at: usize = 0;
     let mut count: usize = 0;
     let mut next = from;
-    while stretch::REACH <= part.len() - at {
-        let t = stretch::pass(part, at);
+    while code_stretch::REACH <= part.len() - at {
+        let t = code_stretch::pass(part, at);
         if t.after <= at {
             return check_from(part, at, count, next);
         }
@@ -157,8 +157,8 @@ pub fn step_at(part: &[u8], from: usize, k: usize) -> usize
     let mut at: usize = 0;
     let mut next = from;
     let mut left = k;
-    while stretch::REACH <= part.len() - at {
-        let t = stretch::pass(part, at);
+    while code_stretch::REACH <= part.len() - at {
+        let t = code_stretch::pass(part, at);
         if t.after <= at {
             return step_from(part, at, next, left);
         }
@@ -207,8 +207,8 @@ pub fn first_in(part: &[u8], from: usize, x: usize) -> Indexed
     let mut at: usize = 0;
     let mut next = from;
     let mut index: usize = 0;
-    while stretch::REACH <= part.len() - at {
-        let t = stretch::pass(part, at);
+    while code_stretch::REACH <= part.len() - at {
+        let t = code_stretch::pass(part, at);
         if t.after <= at {
             return first_from(part, at, next, index, x);
         }

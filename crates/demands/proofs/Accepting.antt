@@ -30,8 +30,8 @@ use Rattle.write.specs.Faults.{firstAbove, firstFall}
 use Rattle.write.specs.Promise as write
 use Rattle.write.proofs.Faults.{faultless-listed}
 use Rattle.write.proofs.Outcomes.{outcome-many, outcome-above, outcome-fall, outcome-work, outcome-unplaced, outcome-placed}
-use Rattle.result.specs.declared.Operation.{Operation}
-use Rattle.result.specs.Result.{resultOf}
+use Rattle.pair_operation.specs.declared.Operation.{Operation}
+use Rattle.pair_operation.specs.Result.{resultOf}
 use Rattle.pair.specs.Promise as pair
 use Rattle.pair.proofs.Outcomes.{result-placed, accepted-placed}
 use Rattle.demands.specs.Inputs.{Accepts, Image, ImageWhere, WriteRoom, PairRoom}

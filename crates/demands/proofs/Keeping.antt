@@ -15,7 +15,7 @@ use Rattle.read.specs.declared.Checked.the-variants as checked
 use Rattle.read.specs.Read as read
 use Rattle.write.specs.declared.Counted.the-variants as counted
 use Rattle.write.specs.Promise as write
-use Rattle.result.specs.declared.Operation.{Operation}
+use Rattle.pair_operation.specs.declared.Operation.{Operation}
 use Rattle.pair.specs.Promise as pair
 use Rattle.demands.specs.Promises.{Read, Write, Pair}
 

@@ -8,8 +8,8 @@ use Rattle.image.specs.Grammar.{Accepted}
 use Rattle.image.proofs.Accepted.{accepted-bytes}
 use Rattle.write.proofs.Written.{written-one}
 use Rattle.write.proofs.RoundTrip.{accepted-placed}
-use Rattle.result.specs.declared.Operation.{Operation}
-use Rattle.result.specs.Result.{keeps}
+use Rattle.pair_operation.specs.declared.Operation.{Operation}
+use Rattle.pair_operation.specs.Result.{keeps}
 use Rattle.pair.specs.Chain.{Thing, given, made, means, Link, Ends}
 use Rattle.pair.proofs.Links.{accepted-link}
 use Rattle.pair.proofs.Chains.{chain-writes}

@@ -36,7 +36,7 @@ use Rattle.write.specs.declared.Counted.the-variants as counts
 use Rattle.write.specs.Written.{imageFor}
 use Rattle.write.specs.Promise as write
 use Rattle.write.proofs.Decides.{write-decides}
-use Rattle.result.specs.declared.Operation.{Operation}
+use Rattle.pair_operation.specs.declared.Operation.{Operation}
 use Rattle.pair.specs.Promise as pair
 use Rattle.pair.proofs.Decides.{pair-decides}
 use Rattle.demands.specs.Promises.{Settles, Clock, Check, Read, Rank, FirstAt, Start, Move, SkipTo, Write, Pair}

@@ -8,8 +8,8 @@ use Rattle.lists.specs.Bytes.{Bytes}
 use Rattle.lists.specs.Members.{has}
 use Rattle.image.specs.Grammar.{Accepted}
 use Rattle.read.specs.declared.Checked.the-variants as checked
-use Rattle.result.specs.declared.Operation.{Operation}
-use Rattle.result.specs.Result.{keeps}
+use Rattle.pair_operation.specs.declared.Operation.{Operation}
+use Rattle.pair_operation.specs.Result.{keeps}
 use Rattle.pair.specs.Chain.{Thing, made, means, Link, Ends}
 use Rattle.demands.specs.Promises.{Check, Wrote, Made}
 use Rattle.demands.specs.Inputs.{OneOutcome, ImageWhere, AcceptedExactly, BuffersKept}

@@ -21,8 +21,8 @@ use Rattle.ask.specs.Cursor as cursor
 use Rattle.write.specs.declared.Counted.the-variants as counted
 use Rattle.write.specs.Written.{imageFor}
 use Rattle.write.specs.Promise as write
-use Rattle.result.specs.declared.Operation.{Operation}
-use Rattle.result.specs.Result.{resultOf}
+use Rattle.pair_operation.specs.declared.Operation.{Operation}
+use Rattle.pair_operation.specs.Result.{resultOf}
 use Rattle.pair.specs.Promise as pair
 use Rattle.demands.specs.Promises.{Settles, Clock, Check, Read, Rank, FirstAt, Start, Move, SkipTo, Write, Pair}
 

@@ -17,7 +17,7 @@ use Rattle.ask.specs.Cursor as cursor
 use Rattle.write.specs.declared.Counted.{Counted}
 use Rattle.write.specs.declared.Counted.the-variants.{Accepted}
 use Rattle.write.specs.Promise as write
-use Rattle.result.specs.declared.Operation.{Operation}
+use Rattle.pair_operation.specs.declared.Operation.{Operation}
 use Rattle.pair.specs.Promise as pair
 
 -- ---- the promises

@@ -14,7 +14,7 @@ use Rattle.image.specs.Block.{inRow, judged, blockOf}
 use Rattle.image.specs.Verdict.{faultOf, verdict}
 use Rattle.write.specs.Written.{imageFor}
 use Rattle.write.specs.Faults.{firstOf}
-use Rattle.result.specs.Result.{sieve, resultOf}
+use Rattle.pair_operation.specs.Result.{sieve, resultOf}
 use Rattle.examples.specs.Table.{computed, stated, table}
 
 -- EACH QUESTION HAS THE ANSWER BESIDE IT

@@ -7,8 +7,8 @@ use Rattle.code.specs.Code.{codeOf}
 use Rattle.image.specs.Verdict as verdicts
 use Rattle.write.specs.Written.{imageFor}
 use Rattle.write.specs.Promise as writing
-use Rattle.result.specs.declared.Operation.{Operation}
-use Rattle.result.specs.declared.Operation.the-variants.{Both, Without}
+use Rattle.pair_operation.specs.declared.Operation.{Operation}
+use Rattle.pair_operation.specs.declared.Operation.the-variants.{Both, Without}
 use Rattle.pair.specs.Promise as pairs
 
 -- ---- questions and answers

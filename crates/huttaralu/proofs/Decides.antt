@@ -3,7 +3,7 @@
 use mathlib.Core.Path.{_≡_, sym, _∙_}
 use mathlib.Core.List.{List}
 use Prim.Native.Nat.{ℕ}
-use Rattle.result.specs.declared.Operation.{Operation}
+use Rattle.pair_operation.specs.declared.Operation.{Operation}
 use Rattle.huttaralu.specs.Says as says
 
 -- a contract that says the outcome by a function of what was lent allows no two

@@ -7,7 +7,7 @@ use Rattle.read.specs.declared.Checked.{Checked}
 use Rattle.read.specs.Read as read
 use Rattle.write.specs.declared.Counted as write
 use Rattle.write.specs.Promise.{paperOf, Promise}
-use Rattle.result.specs.declared.Operation.{Operation}
+use Rattle.pair_operation.specs.declared.Operation.{Operation}
 use Rattle.pair.specs.Promise as pair
 use Rattle.answers.specs.declared.Counted.{Counted}
 use Rattle.answers.specs.Fields.{countedOf}

@@ -25,8 +25,8 @@ use Rattle.write.specs.Promise as write
 use Rattle.ask.specs.Rank as rank
 use Rattle.ask.specs.First as first
 use Rattle.ask.specs.Cursor as cursor
-use Rattle.result.specs.declared.Operation.{Operation}
-use Rattle.result.specs.Result.{resultOf}
+use Rattle.pair_operation.specs.declared.Operation.{Operation}
+use Rattle.pair_operation.specs.Result.{resultOf}
 use Rattle.pair.specs.Promise as pair
 use Rattle.answers.specs.Fields.{refusalOf, telling, countedOf, rankedOf, firstOf, movedOf, clockOf, checkedPaper, countedPaper, rankedPaper, firstPaper, movedPaper, clockPaper}
 use Rattle.huttaralu.specs.Says as says

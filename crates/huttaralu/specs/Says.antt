@@ -9,7 +9,7 @@ use Rattle.write.specs.Promise as writes
 use Rattle.ask.specs.Rank as ranks
 use Rattle.ask.specs.First as firsts
 use Rattle.ask.specs.Cursor as cursors
-use Rattle.result.specs.declared.Operation.{Operation}
+use Rattle.pair_operation.specs.declared.Operation.{Operation}
 use Rattle.pair.specs.Promise as pairs
 use Rattle.answers.specs.declared.Counted.{Counted}
 use Rattle.answers.specs.declared.Ranked.{Ranked}

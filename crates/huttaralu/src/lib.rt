@@ -2,7 +2,7 @@
 // answer, with each lent buffer afterwards.
 
 ghost use mathlib.Core.Path.{_≡_};
-ghost use Rattle.result.specs.declared.Operation.the-variants.{Both, Either, Without};
+ghost use Rattle.pair_operation.specs.declared.Operation.the-variants.{Both, Either, Without};
 ghost use Rattle.huttaralu.specs.Says as says;
 use answers::Clock;
 use answers::Counted;

@@ -5,3 +5,4 @@ pub mod Members
 pub mod Gaps
 pub mod Below
 pub mod Bytes
+pub mod Stores

@@ -8,11 +8,11 @@ use Rattle.lists.specs.Members.{has}
 use Rattle.lists.proofs.Members.{has-none}
 use Rattle.image.specs.Grammar.{Accepted}
 use Rattle.write.specs.Written.{Written}
-use Rattle.result.specs.declared.Operation.{Operation}
-use Rattle.result.specs.declared.Operation.the-variants.{Without}
-use Rattle.result.specs.Result.{keeps}
+use Rattle.pair_operation.specs.declared.Operation.{Operation}
+use Rattle.pair_operation.specs.declared.Operation.the-variants.{Without}
+use Rattle.pair_operation.specs.Result.{keeps}
 use Rattle.pair.specs.Chain.{Thing, given, made, means, Ends}
-use Rattle.result.proofs.Sets.{Even, keeps-comm, keeps-assoc, keeps-self, keeps-all}
+use Rattle.pair_operation.proofs.Sets.{Even, keeps-comm, keeps-assoc, keeps-self, keeps-all}
 use Rattle.pair.proofs.Chains.{chain-writes, chains-same}
 
 module _ {op : Operation} (even : Even op) where

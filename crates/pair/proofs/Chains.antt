@@ -13,10 +13,10 @@ use Rattle.image.specs.Grammar.{Accepted}
 use Rattle.image.proofs.Accepted.{accepted-one}
 use Rattle.write.specs.Written.{Written}
 use Rattle.write.proofs.Written.{written-one, written-accepted, written-least}
-use Rattle.result.specs.declared.Operation.{Operation}
-use Rattle.result.specs.Result.{keeps, resultOf}
+use Rattle.pair_operation.specs.declared.Operation.{Operation}
+use Rattle.pair_operation.specs.Result.{keeps, resultOf}
 use Rattle.pair.specs.Chain.{Thing, given, made, means, Link, Ends}
-use Rattle.result.proofs.Result.{result-listed, has-result}
+use Rattle.pair_operation.proofs.Result.{result-listed, has-result}
 
 -- the result of a link is one of document 01's lists
 pub link-listed : {op : Operation} {c d b : List ℕ} (l : Link op c d b) → Listed (resultOf op (l .first) (l .second))

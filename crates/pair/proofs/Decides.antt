@@ -5,7 +5,7 @@ use mathlib.Core.List.{List}
 use Prim.Native.Nat.{ℕ}
 use Rattle.write.specs.declared.Counted.{Counted}
 use Rattle.write.proofs.Decides.{paper-one}
-use Rattle.result.specs.declared.Operation.{Operation}
+use Rattle.pair_operation.specs.declared.Operation.{Operation}
 use Rattle.pair.specs.Promise.{Promise}
 
 -- TWO OUTCOMES THAT THE PROMISE ALLOWS ARE EQUAL

@@ -7,9 +7,9 @@ use lib.ListN.{length, take, drop, length-take}
 use lib.Seq.{sets, take-at}
 use Rattle.lists.proofs.Stores.{sets-front}
 use Rattle.image.specs.Taken.{stepsOf}
-use Rattle.result.specs.declared.Operation.{Operation}
-use Rattle.result.specs.Result.{resultOf}
-use Rattle.merge.specs.Counts.{Counts}
+use Rattle.pair_operation.specs.declared.Operation.{Operation}
+use Rattle.pair_operation.specs.Result.{resultOf}
+use Rattle.pair_thin.specs.Counts.{Counts}
 use Rattle.pair.specs.Room.{Held}
 
 none : (xs : List ℕ) → length xs ≤ 0 → xs ≡ []

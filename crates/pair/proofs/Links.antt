@@ -15,8 +15,8 @@ use Rattle.write.specs.declared.Counted.the-variants.{Accepted}
 use Rattle.write.specs.Written.{Written, imageFor}
 use Rattle.write.specs.Promise.{values, paperOf}
 use Rattle.write.proofs.Written.{written-some}
-use Rattle.result.specs.declared.Operation.{Operation}
-use Rattle.result.specs.Result.{resultOf}
+use Rattle.pair_operation.specs.declared.Operation.{Operation}
+use Rattle.pair_operation.specs.Result.{resultOf}
 use Rattle.pair.specs.Promise.{Outcome, stopped, placed, onResult, onVerdicts, outcome, answer, outAfter, Promise}
 use Rattle.pair.specs.Chain.{Link}
 use Rattle.pair.proofs.Outcomes.{accepted-placed}

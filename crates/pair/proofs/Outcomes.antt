@@ -23,8 +23,8 @@ use Rattle.write.specs.Written.{imageFor}
 use Rattle.write.specs.Promise.{paperOf}
 use Rattle.write.specs.Promise as writing
 use Rattle.write.proofs.Outcomes.{outcome-unplaced, outcome-placed}
-use Rattle.result.specs.declared.Operation.{Operation}
-use Rattle.result.specs.Result.{resultOf}
+use Rattle.pair_operation.specs.declared.Operation.{Operation}
+use Rattle.pair_operation.specs.Result.{resultOf}
 use Rattle.pair.specs.Promise.{Outcome, stopped, unplaced, placed, onResult, onVerdicts, outcome, answer, stepsAfter, workAfter, outAfter, Promise}
 
 module _ {op : Operation} {first second steps work out : List ℕ} where

@@ -8,8 +8,8 @@ use Rattle.lists.specs.Members.{has}
 use Rattle.rules.specs.Limits.{mostSteps}
 use Rattle.image.specs.Grammar.{Accepted}
 use Rattle.write.specs.Written.{Written}
-use Rattle.result.specs.declared.Operation.{Operation}
-use Rattle.result.specs.Result.{keeps, resultOf}
+use Rattle.pair_operation.specs.declared.Operation.{Operation}
+use Rattle.pair_operation.specs.Result.{keeps, resultOf}
 
 -- a thing is an accepted image of a list, or what an operation makes of two things; what is made is a chain
 pub data Thing : Type 0 where

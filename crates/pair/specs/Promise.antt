@@ -15,8 +15,8 @@ use Rattle.image.specs.Verdict.{Verdict, taken, refused, verdict}
 use Rattle.write.specs.declared.Counted.{Counted}
 use Rattle.write.specs.Written.{imageFor}
 use Rattle.write.specs.Promise.{values, paperOf}
-use Rattle.result.specs.declared.Operation.{Operation}
-use Rattle.result.specs.Result.{resultOf}
+use Rattle.pair_operation.specs.declared.Operation.{Operation}
+use Rattle.pair_operation.specs.Result.{resultOf}
 
 -- how an operation ends: refused before anything was stored, or with a list of steps, for which the output has room or not
 pub data Outcome : Type 0 where

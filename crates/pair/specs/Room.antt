@@ -6,8 +6,8 @@ use lib.ListN.{length, take}
 use Rattle.rules.specs.Limits.{mostSteps}
 use Rattle.rules.specs.Sizes.{workFor}
 use Rattle.image.specs.Taken.{stepsOf, Taken}
-use Rattle.result.specs.declared.Operation.{Operation}
-use Rattle.result.specs.Result.{resultOf}
+use Rattle.pair_operation.specs.declared.Operation.{Operation}
+use Rattle.pair_operation.specs.Result.{resultOf}
 
 -- the result has no more steps than a list may have, and a step buffer and a work area of these lengths have room for it
 pub record Roomy (op : Operation) (first second : List ℕ) (steps work : ℕ) : Type 0 where

@@ -10,12 +10,12 @@ ghost use lib.ListN.{length, drop};
 ghost use Rattle.rules.specs.Refusals.{onSide};
 ghost use Rattle.image.specs.Taken.{stepsOf, Taken};
 ghost use Rattle.write.specs.declared.Counted.the-variants.{Refused};
-ghost use Rattle.result.specs.declared.Operation.the-variants.{Both, Either, Without};
-ghost use Rattle.result.specs.Result.{resultOf};
+ghost use Rattle.pair_operation.specs.declared.Operation.the-variants.{Both, Either, Without};
+ghost use Rattle.pair_operation.specs.Result.{resultOf};
 ghost use Rattle.pair.specs.Promise.{Promise};
 ghost use Rattle.pair.specs.Room.{Roomy, Held};
+use pair_operation::Operation;
 use read::Checked;
-use result::Operation;
 use rules::Refusal;
 use write::Counted;
 
@@ -87,9 +87,9 @@ fn count<'a>(op: Operation, first: &'a [u8], second: &'a [u8], few: &mut [u32]) 
     ensures { λ r. ⌜ Held op (now (first .entry)) (now (second .entry)) r (now (few .exit)) ⌝ }
 {
     if few.len() == 0 {
-        return windows::count(op, first, second);
+        return pair_dense::count(op, first, second);
     }
-    merge::count(op, first, second, few)
+    pair_thin::count(op, first, second, few)
 }
 
 // Stores the `n` steps of the result of two images of `all` steps together, which `few` holds where it has room for them.
@@ -109,13 +109,13 @@ fn store<'a>(
         ++ drop (length (resultOf op (stepsOf (now (first .entry))) (stepsOf (now (second .entry))))) (now (steps .entry))) ⌝ }
 {
     if n <= few.len() {
-        merge::put(&few[..n], steps, 0);
+        pair_thin::put(&few[..n], steps, 0);
         return n;
     }
     if thin(thin_for(op), all, first, second) {
-        return merge::store(op, first, second, steps);
+        return pair_thin::store(op, first, second, steps);
     }
-    windows::store(op, first, second, steps)
+    pair_dense::store(op, first, second, steps)
 }
 
 // Stores and writes the result of two images of `all` steps together, for which there is room: `n` steps, which `few` holds where it can.

@@ -209,7 +209,7 @@ fn fill_block(part: &[u8], b: Before, e: Entry, out: &mut [u32], at: usize) -> u
     if e.kind == CODES {
         return codes::steps(part, from, out, at);
     }
-    row_reader::steps(part, from, out, at)
+    row_read::steps(part, from, out, at)
 }
 
 // Puts the steps of all blocks of an image that was accepted into the front of a buffer.

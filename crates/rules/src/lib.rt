@@ -1,25 +1,33 @@
 // What document 01 fixes once for all: the limits, the sizes of an image's parts, the refusals, and fixed-width numbers.
 
 ghost use mathlib.Core.Path.{_≡_};
-ghost use Prim.Native.Nat.{_+_, _^_, _≤_, _<_};
+ghost use Prim.Native.Nat.{_+_, _^_, _≤_, _<_, min};
 ghost use lib.ListN.{length};
 ghost use lib.Seq.{sets};
-ghost use Rattle.rules.specs.Limits.{largestStep, mostSteps};
+ghost use Rattle.rules.specs.Limits.{largestStep, mostSteps, noStep};
 ghost use Rattle.rules.specs.Sizes.{workFor};
 ghost use Rattle.rules.specs.Refusals.{refusal};
 ghost use Rattle.rules.specs.Numbers.{numberAt, numberBytes};
 
+// Document 01: the largest step, and the largest number of steps of a list.
 const LARGEST_STEP: u32 = 16777215;
+
+const NO_STEP: usize = (LARGEST_STEP as usize) + 1;
 
 const MOST_STEPS: usize = 1048576;
 
-// The numbers of work for a step, and as many more.
+// Document 01: the numbers of work for a step, and as many more.
 const WORK_SHARE: usize = 16;
 
-// The bytes of a fixed-width number and of an entry: kind, last, upto, end.
+// Document 01: the bytes of a fixed-width number and of an entry: kind, last, upto, end.
 pub const NUMBER_SIZE: usize = 4;
 
 pub const ENTRY_SIZE: usize = 13;
+
+// Document 01: the kinds of a block.
+pub const CODES: usize = 0;
+
+pub const ROW: usize = 1;
 
 // The refusals of document 01's table, in its order.
 pub const TOO_FEW_BYTES: u32 = 1;
@@ -72,6 +80,23 @@ pub fn largest_step() -> u32
     ensures { λ r. ⌜ r ≡ largestStep ⌝ }
 {
     LARGEST_STEP
+}
+
+// One past the largest step, which stands for no step.
+pub fn no_step() -> usize
+    ensures { λ r. ⌜ r ≡ noStep ⌝ }
+{
+    NO_STEP
+}
+
+// The lower of two numbers.
+pub fn lower(x: usize, y: usize) -> usize
+    ensures { λ r. ⌜ r ≡ min x y ⌝ }
+{
+    if x < y {
+        return x;
+    }
+    y
 }
 
 // The largest number of steps of a list.

@@ -125,7 +125,7 @@ fn put_part(list: &[u32], i: usize, word: usize, out: &mut [u8], at: usize) -> u
     if word % 2 == 0 {
         return codes::put(steps, from, out, at);
     }
-    row_writer::put(steps, from, out, at)
+    row_write::put(steps, from, out, at)
 }
 
 // Puts that block's part at p and its entry at `at`, and gives the place after the part; the payload begins at `base`.

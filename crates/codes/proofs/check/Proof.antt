@@ -5,7 +5,7 @@ use Prim.Native.Nat.{_+_, _-_, _*_, _^_, _≤_}
 use native.Mathlib.Omega.{arith}
 use lib.ListN.{length}
 use Rattle.code.specs.Code.{codeValues}
-use Rattle.stretch.specs.Runs.{Passed}
+use Rattle.code_stretch.specs.Runs.{Passed}
 use Rattle.codes.specs.Codes.{stepsFrom, tallyOf}
 use Rattle.codes.proofs.Passing.{passed-few, passed-tally}
 use Rattle.codes.proofs.check.Statement.{statement}

@@ -5,7 +5,7 @@ use mathlib.Core.Path.{refl, _∙_}
 use Prim.Native.Nat.{_+_, _-_, _≤_}
 use native.Mathlib.Omega.{arith}
 use lib.ListN.{length}
-use Rattle.stretch.specs.Runs.{Passed}
+use Rattle.code_stretch.specs.Runs.{Passed}
 use Rattle.codes.specs.Codes.{stepsFrom, listOf, Sound}
 use Rattle.codes.proofs.Finding.{Ahead, ahead-answer}
 use Rattle.codes.proofs.Passing.{passed-few, Skipped, passed-steps, skipped-found}

@@ -4,7 +4,7 @@ use mathlib.Core.Path.{_≡_, refl, sym, _∙_}
 use Prim.Native.Nat.{_+_, _-_, _≤_, _<_}
 use native.Mathlib.Omega.{arith}
 use lib.ListN.{length, getD}
-use Rattle.stretch.specs.Runs.{Passed}
+use Rattle.code_stretch.specs.Runs.{Passed}
 use Rattle.codes.specs.Codes.{stepsFrom, listOf, Sound}
 use Rattle.codes.proofs.Passing.{Skipped, passed-steps, skipped-length, skipped-at}
 use Rattle.codes.proofs.step_at.Statement.{statement}

@@ -6,8 +6,8 @@ use lib.ListN.{length, take}
 use Rattle.rules.specs.Listed.{Listed}
 use Rattle.image.specs.Taken.{stepsOf}
 use Rattle.image.proofs.Taken.{steps-listed}
-use Rattle.result.specs.Result.{resultOf}
-use Rattle.result.proofs.Result.{result-listed}
+use Rattle.pair_operation.specs.Result.{resultOf}
+use Rattle.pair_operation.proofs.Result.{result-listed}
 use Rattle.pair.proofs.Outcomes.{stored-front, promise-written}
 use Rattle.pair.proofs.stored.Statement.{statement}
 use Rattle.pair.proofs.stored.Tie as tie

@@ -1,0 +1,56 @@
+-- `pair_lay::next_code` meets its contract: by a code of two bytes, or as any walk goes. Assumes nothing.
+use mathlib.Core.Path.{sym, subst}
+use native.Mathlib.Omega.{arith}
+use borrow.Author.Needs.{needs}
+use Rattle.rules.specs.Limits.Laws.{largest-coded}
+use Rattle.image_walk.specs.Walk.{Follows}
+use Rattle.image_walk.proofs.Passing.{code-next, pass-to}
+use Rattle.pair_lay.proofs.next_code.Statement.{statement}
+use Rattle.pair_lay.proofs.next_code.Tie as tie
+
+double-at-requires : tie.Need-double-at-requires
+double-at-requires c κs = let d = c .before .before in λ h. d .pre .0 .placed .on (d .pre .1 .1) .within
+
+add-coded : tie.Need-add-coded
+add-coded c = omega (arith, c .before .before .before .before .before .pre .1 .1, largest-coded)
+
+add-coded-2 : tie.Need-add-coded-2
+add-coded-2 c = omega (arith, c .before .before .before .before .before .pre .1 .1, largest-coded, c .before .if1 .taken)
+
+add-coded-3 : tie.Need-add-coded-3
+add-coded-3 c =
+    let d = c .before .before .before .before .before .before in
+    let o = d .pre .0 .placed .on (d .pre .1 .1) in
+    omega (arith, c .before .before .before .double-at .ensures .some (c .before .before .if1 .taken), o .within, o .few)
+
+coded-requires : tie.Need-coded-requires
+coded-requires c κs = search needs
+
+returns : tie.Need-returns
+returns c =
+    let d = c .before .before .before .before .before .before .before in
+    let a = d .args in
+    let g = c .before .before .before .before .double-at in
+    let h = c .before .before .before .if1 .taken in
+    subst (Follows (a .image .now) (a .payload .now) (a .w)) (sym (c .coded .ensures))
+    (pass-to (d .pre .0) (d .pre .1 .1)
+    (code-next (a .payload .now) (a .w) (d .pre .0 .placed) (d .pre .1 .0) (g .ensures .some h) (g .result) 2 (λ i. omega (arith, c .before .before .before .before .before .shared-slice-known2 .given i)) (g .ensures .reads h)))
+
+next-requires : tie.Need-next-requires
+next-requires c κs = search needs
+
+returns-2 : tie.Need-returns-2
+returns-2 c = search needs
+
+pub next-code-spec : {M : Type 1} → statement M
+next-code-spec =
+    tie.close
+    (tie.spec
+    double-at-requires
+    add-coded
+    add-coded-2
+    add-coded-3
+    coded-requires
+    returns
+    next-requires
+    returns-2)

@@ -1,0 +1,129 @@
+-- `pair_thin::round` meets its contract: the turns go by what both feeds show, and each feed shows a number again. Assumes nothing.
+use mathlib.Core.Path.{refl}
+use Prim.Native.Nat.{_<_}
+use native.Mathlib.Omega.{arith}
+use borrow.Author.Needs.{needs}
+use lib.ListN.{length}
+use Rattle.pair_thin.proofs.Coming.{first-past, second-past, first-stands, second-stands, first-fed, second-fed, round-goes}
+use Rattle.pair_thin.proofs.round.Statement.{statement}
+use Rattle.pair_thin.proofs.round.Tie as tie
+
+mul-turns : tie.Need-mul-turns
+mul-turns c = search needs
+
+sub-turns : tie.Need-sub-turns
+sub-turns c = search needs
+
+part-turns-start : tie.Need-part-turns-start
+part-turns-start c = search needs
+
+part-turns-end : tie.Need-part-turns-end
+part-turns-end c = search needs
+
+mul-turns-2 : tie.Need-mul-turns-2
+mul-turns-2 c = search needs
+
+sub-turns-2 : tie.Need-sub-turns-2
+sub-turns-2 c = search needs
+
+part-turns-start-2 : tie.Need-part-turns-start-2
+part-turns-start-2 c = search needs
+
+part-turns-end-2 : tie.Need-part-turns-end-2
+part-turns-end-2 c = search needs
+
+turns-requires : tie.Need-turns-requires
+turns-requires c κs = search needs
+
+passed-requires : tie.Need-passed-requires
+passed-requires c κs = first-past (c .before .before .before .before .before .before .before .before .before .before .before .before .before .before .before .before .before .pre .0 .0) (c .before .before .turns .ensures)
+
+more-requires : tie.Need-more-requires
+more-requires c κs =
+    let p = c .before .before .before .before .before .before .before .before .before .before .before .before .before .before .before .before .before .before .before .pre in
+    (first-stands (p .0 .0) (c .before .before .before .before .turns .ensures) _ _ (c .before .passed .ensures) refl, p .1 .0 .0)
+
+passed-requires-2 : tie.Need-passed-requires-2
+passed-requires-2 c κs = second-past (c .before .before .before .before .before .before .before .before .before .before .before .before .before .before .before .before .before .before .before .before .before .before .pre .0 .0) (c .before .before .before .before .before .before .before .turns .ensures)
+
+more-requires-2 : tie.Need-more-requires-2
+more-requires-2 c κs =
+    let p = c .before .before .before .before .before .before .before .before .before .before .before .before .before .before .before .before .before .before .before .before .before .before .before .before .pre in
+    (second-stands (p .0 .0) (c .before .before .before .before .before .before .before .before .before .turns .ensures) _ _ refl (c .before .passed2 .ensures), p .1 .0 .1)
+
+-- each feed shows a number of its buffer
+at-first : (c : tie.After-slice-known6) → c .before .before .before .before .before .before .before .more .result .at < length (c .before .before .before .before .before .before .before .more .last .1 .0)
+at-first c =
+    let m = c .before .before .before .before .before .before .before .more in
+    let f = first-fed (c .before .before .before .before .before .before .before .before .before .before .before .before .before .before .before .before .before .before .before .before .before .before .before .before .before .before .before .pre .0 .0) (c .before .before .before .before .before .before .before .before .before .before .before .before .turns .ensures) _ _ (c .before .before .before .before .before .before .before .before .before .passed .ensures) (c .before .before .before .before .passed2 .ensures) _ _ _ _ (m .ensures) (c .before .before .more2 .ensures) in
+    omega (arith, f .within, m .ensures .1)
+
+at-second : (c : tie.After-slice-known6) → c .before .before .more2 .result .at < length (c .before .before .more2 .last .1 .0)
+at-second c =
+    let m = c .before .before .more2 in
+    let f = second-fed (c .before .before .before .before .before .before .before .before .before .before .before .before .before .before .before .before .before .before .before .before .before .before .before .before .before .before .before .pre .0 .0) (c .before .before .before .before .before .before .before .before .before .before .before .before .turns .ensures) _ _ (c .before .before .before .before .before .before .before .before .before .passed .ensures) (c .before .before .before .before .passed2 .ensures) _ _ _ _ (c .before .before .before .before .before .before .before .more .ensures) (m .ensures) in
+    omega (arith, f .within, m .ensures .1)
+
+mul-lower : tie.Need-mul-lower
+mul-lower c = omega (arith, at-first c, c .before .before .before .before .before .before .left2 .given, c .before .before .before .before .before .before .before .before .before .before .before .before .before .before .before .before .before .before .before .before .before .before .before .before .before .before .before .pre .1 .0 .0 .1)
+
+slice-read-lower : tie.Need-slice-read-lower
+slice-read-lower c = at-first (c .before)
+
+cast-lower : tie.Need-cast-lower
+cast-lower c = omega (arith, c .slice-known7 .given (c .before .before .before .before .before .before .before .before .more .result .at))
+
+mul-lower-2 : tie.Need-mul-lower-2
+mul-lower-2 c = omega (arith, at-second (c .before), c .before .before .right2 .given, c .before .before .before .before .before .before .before .before .before .before .before .before .before .before .before .before .before .before .before .before .before .before .before .before .before .before .before .before .pre .1 .0 .1 .1)
+
+slice-read-lower-2 : tie.Need-slice-read-lower-2
+slice-read-lower-2 c = at-second (c .before .before)
+
+cast-lower-2 : tie.Need-cast-lower-2
+cast-lower-2 c = omega (arith, c .slice-known8 .given (c .before .before .before .before .more2 .result .at))
+
+lower-requires : tie.Need-lower-requires
+lower-requires c κs = search needs
+
+same-length : tie.Need-same-length
+same-length c = search needs
+
+same-length-2 : tie.Need-same-length-2
+same-length-2 c = search needs
+
+same-length-3 : tie.Need-same-length-3
+same-length-3 c = search needs
+
+returns : tie.Need-returns
+returns c =
+    round-goes (c .before .before .before .before .before .before .before .before .before .before .before .before .before .before .before .before .before .before .before .before .before .before .before .before .before .before .before .before .before .before .pre .0 .0) (c .before .before .before .before .before .before .before .before .before .before .before .before .before .before .before .turns .ensures) _ _ (c .before .before .before .before .before .before .before .before .before .before .before .before .passed .ensures) (c .before .before .before .before .before .before .before .passed2 .ensures) _ _ _ _
+    (c .before .before .before .before .before .before .before .before .before .before .more .ensures) (c .before .before .before .before .before .more2 .ensures) _ (c .before .before .before .before .before .before .before .before .before .before .before .before .before .before .before .before .before .before .before .before .before .before .before .before .before .before .before .before .before .before .pre .0 .1) (c .lower .ensures)
+
+pub round-spec : {M : Type 1} → statement M
+round-spec =
+    tie.close
+    (tie.spec
+    mul-turns
+    sub-turns
+    part-turns-start
+    part-turns-end
+    mul-turns-2
+    sub-turns-2
+    part-turns-start-2
+    part-turns-end-2
+    turns-requires
+    passed-requires
+    more-requires
+    passed-requires-2
+    more-requires-2
+    mul-lower
+    slice-read-lower
+    cast-lower
+    mul-lower-2
+    slice-read-lower-2
+    cast-lower-2
+    lower-requires
+    same-length
+    same-length-2
+    same-length-3
+    returns)
