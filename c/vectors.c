@@ -150,9 +150,9 @@ static void ask_code(const char *text) {
     uint32_t step = one_number(text);
     uint8_t out[BYTES];
     struct hutt_counted counted = hutt_write(&step, 1, work, WORK, out, BYTES);
-    /* one entry of 13 bytes, and the two counts */
+    const size_t payload = 2 * HUTT_NUMBER_SIZE + HUTT_ENTRY_SIZE;
     if (!refused(counted.refusal))
-        print_bytes("", out + 21, counted.bytes - 21);
+        print_bytes("", out + payload, counted.bytes - payload);
 }
 
 static void ask_check(const char *text) {

@@ -5,9 +5,9 @@
  * Link libhuttaralu.a, which `rt staticlib huttaralu` makes. Of the C library it needs at most
  * memset, memcpy and memmove.
  *
- * Numbers. A step is six minutes, 0 to 16777215. A list is strictly increasing and has 0 to 1048576
- * steps. Ranks count from 0. A bound is any 32-bit number. Below, n is the number of steps of a
- * list, of an image's list, or of a pair's result.
+ * Numbers. A step is six minutes, 0 to HUTT_LARGEST_STEP. A list is strictly increasing and has 0 to
+ * HUTT_MOST_STEPS steps. Ranks count from 0. A bound is any 32-bit number. Below, n is the number of
+ * steps of a list, of an image's list, or of a pair's result.
  *
  * Images. Bytes that stand for a list, by the rules of document 01 (docs/01-scope.md). A list has
  * many images; the one that is written is the shortest, and there is one of it. So two results that
@@ -42,6 +42,8 @@
 extern "C" {
 #endif
 
+/* ---- Limits and sizes ---- */
+
 /*
  * The largest step, the largest number of steps in a list, and the steps of a year, which are those
  * that have a clock.
@@ -50,14 +52,19 @@ extern "C" {
 #define HUTT_MOST_STEPS 1048576u
 #define HUTT_YEAR_STEPS 87600u
 
-/* The 32-bit numbers of work that writing n steps borrows. */
-#define HUTT_WORK_NEEDED(n) (16 * ((size_t)(n) + 1))
+/* The bytes of a number in an image, and of an entry: kind, last, upto, end. */
+#define HUTT_NUMBER_SIZE 4u
+#define HUTT_ENTRY_SIZE 13u
+
+/* The 32-bit numbers of work that writing n steps borrows: a share for each step, and one more. */
+#define HUTT_WORK_SHARE 16u
+#define HUTT_WORK_NEEDED(n) (HUTT_WORK_SHARE * ((size_t)(n) + 1))
 
 /*
  * A number of bytes that the image of any n steps fits: the counts, and one block of codes with four
  * bytes a step.
  */
-#define HUTT_MOST_BYTES(n) (21 + 4 * (size_t)(n))
+#define HUTT_MOST_BYTES(n) (2 * HUTT_NUMBER_SIZE + HUTT_ENTRY_SIZE + 4 * (size_t)(n))
 
 /* ---- Answers ---- */
 
@@ -69,28 +76,28 @@ enum hutt_number {
     /* Bytes after the payload; at 0. */
     HUTT_BYTES_LEFT_OVER = 2,
     /* Kind above 1; at the entry. */
-    HUTT_KIND = 3,
-    /* Last above 16777215 or not above "before"; at the entry. */
-    HUTT_LAST = 4,
-    /* Upto not above the earlier one (0 at first), or above 1048576; at the entry. */
-    HUTT_UPTO = 5,
+    HUTT_UNKNOWN_KIND = 3,
+    /* Last above HUTT_LARGEST_STEP or not above "before"; at the entry. */
+    HUTT_BAD_LAST = 4,
+    /* Upto not above the earlier one (0 at first), or above HUTT_MOST_STEPS; at the entry. */
+    HUTT_BAD_UPTO = 5,
     /* End not above the earlier one (0 at first), or above p; at the entry. After all entries:
        final end (0 if m = 0) not p; at m. */
-    HUTT_END = 6,
+    HUTT_BAD_END = 6,
     /* A code starts with 80 hex, or its fourth byte has the high bit, or the block ends inside it; at
        the block. */
-    HUTT_CODE = 7,
+    HUTT_BAD_CODE = 7,
     /* Number of steps in the block isn't upto less the earlier upto; at the block. */
-    HUTT_COUNT = 8,
+    HUTT_WRONG_COUNT = 8,
     /* The block's last step isn't the stated one; at the block. */
-    HUTT_LAST_STEP = 9,
+    HUTT_WRONG_LAST = 9,
     /* Row of the wrong length, or a 1 past the span; at the block. */
-    HUTT_ROW = 10,
+    HUTT_BAD_ROW = 10,
     /* List not strictly increasing; at the first index not above its forerunner. */
     HUTT_NOT_INCREASING = 11,
-    /* A step above 16777215; at the first such index. */
+    /* A step above HUTT_LARGEST_STEP; at the first such index. */
     HUTT_STEP_TOO_LARGE = 12,
-    /* More than 1048576 steps in a list or result; at 0. */
+    /* More than HUTT_MOST_STEPS steps in a list or result; at 0. */
     HUTT_TOO_MANY_STEPS = 13,
     /* Work area too short; at the numbers needed. */
     HUTT_WORK_TOO_SHORT = 14,
@@ -100,10 +107,10 @@ enum hutt_number {
     HUTT_STEPS_TOO_SHORT = 16,
     /* Rank not below n; at n. */
     HUTT_RANK_TOO_LARGE = 17,
-    /* Step above 87599 given to the clock; at 0. */
+    /* Step not below HUTT_YEAR_STEPS given to the clock; at 0. */
     HUTT_NOT_IN_THE_YEAR = 18,
     /* Cursor isn't the one its rank has in this image; at 0. */
-    HUTT_OTHER_CURSOR = 19
+    HUTT_NO_SUCH_CURSOR = 19
 };
 
 /* Whether the input is accepted. If not, why and where. */

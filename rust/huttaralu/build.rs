@@ -46,7 +46,7 @@ fn ready_archive(path: &Path) -> Result<PathBuf, String> {
 fn made_archive() -> Result<PathBuf, String> {
     let package = PathBuf::from(env::var_os("CARGO_MANIFEST_DIR").expect("cargo names the package's folder"));
     let root = package.join("../..");
-    for source in ["crates", "crates.txt", "rust/huttaralu/host-archive"] {
+    for source in ["crates", "crates.txt", "include/huttaralu.h", "rust/huttaralu/host-archive"] {
         println!("cargo::rerun-if-changed={}", root.join(source).display());
     }
     if Command::new("rt").arg("version").output().is_err() {

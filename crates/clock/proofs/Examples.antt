@@ -3,7 +3,7 @@
 use mathlib.Core.Path.{_≡_, refl}
 use mathlib.Core.List.{List, [], _∷_}
 use Prim.Native.Nat.{ℕ}
-use Rattle.rules.specs.Refusals.{afterTheYear, refusal}
+use Rattle.rules.specs.Refusals.{notInTheYear, refusal}
 use Rattle.rules.specs.Paper.{Paper, accepting, refusing}
 use Rattle.clock.specs.Clock.{values, promised}
 
@@ -17,7 +17,7 @@ abbrev pub table : List (ℕ × Paper)
 table =
     (0, accepting (1 ∷ 0 ∷ 0 ∷ []))
     ∷ (87599, accepting (365 ∷ 23 ∷ 54 ∷ []))
-    ∷ (87600, refusing values (refusal afterTheYear 0))
+    ∷ (87600, refusing values (refusal notInTheYear 0))
     ∷ []
 
 pub clock-examples : Right table

@@ -3,7 +3,7 @@ use mathlib.Core.List.{[], _∷_}
 use Prim.Native.Nat.{ℕ, _+_, _*_, _/_, _%_}
 use lib.Dec.{ltb}
 use Rattle.lists.specs.Choice.{pick}
-use Rattle.rules.specs.Refusals.{afterTheYear, refusal}
+use Rattle.rules.specs.Refusals.{notInTheYear, refusal}
 use Rattle.rules.specs.Paper.{Paper, accepting, refusing}
 use Rattle.clock.specs.declared.Clocked.{Clocked}
 use Rattle.clock.specs.declared.Clocked.the-variants.{At, Refused}
@@ -36,4 +36,4 @@ timeOf s = accepting ((s / daySteps + 1) ∷ (s % daySteps / hourSteps) ∷ (s %
 
 -- the time of a step of the year; a step after the year's last is refused at 0
 abbrev pub promised : ℕ → Paper
-promised s = pick (ltb s (daySteps * yearDays)) (timeOf s) (refusing values (refusal afterTheYear 0))
+promised s = pick (ltb s (daySteps * yearDays)) (timeOf s) (refusing values (refusal notInTheYear 0))

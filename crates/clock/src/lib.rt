@@ -31,7 +31,7 @@ pub fn clock_of(step: u32) -> Clocked
     ensures { λ r. ⌜ paperOf r ≡ promised step ⌝ }
 {
     if step >= DAY_STEPS * YEAR_DAYS {
-        return Clocked::Refused(rules::refuse(rules::AFTER_THE_YEAR, 0));
+        return Clocked::Refused(rules::refuse(rules::NOT_IN_THE_YEAR, 0));
     }
     Clocked::At(Time {
         day: step / DAY_STEPS + 1,

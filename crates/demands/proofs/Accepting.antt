@@ -15,7 +15,7 @@ use Rattle.lists.specs.Bytes.{Bytes}
 use Rattle.lists.proofs.Choice.{either-way, by-lt, pick-yes, pick-no}
 use Rattle.rules.specs.Limits.{mostSteps}
 use Rattle.rules.specs.Sizes.{workFor}
-use Rattle.rules.specs.Refusals.{afterTheYear, stepsTooShort, rankTooLarge, noSuchCursor, refusal}
+use Rattle.rules.specs.Refusals.{notInTheYear, stepsTooShort, rankTooLarge, noSuchCursor, refusal}
 use Rattle.rules.specs.declared.Refusal.{Refusal}
 use Rattle.rules.specs.Paper.{Paper, accepting, refusing}
 use Rattle.clock.specs.Clock as clock
@@ -56,7 +56,7 @@ only-if a b k r p h = (
 )
 
 pub clock-accepts : (s : ℕ) → Accepts (clock.promised s) ↔ (s < clock.daySteps * clock.yearDays)
-clock-accepts s = only-if s (clock.daySteps * clock.yearDays) clock.values (refusal afterTheYear 0) (clock.timeOf s) refl
+clock-accepts s = only-if s (clock.daySteps * clock.yearDays) clock.values (refusal notInTheYear 0) (clock.timeOf s) refl
 
 -- ---- by the verdict on an image
 

@@ -8,7 +8,7 @@ use lib.Dec.{ltb}
 use lib.ListN.{length, getD, drop}
 use Rattle.lists.specs.Choice.{pick}
 use Rattle.lists.specs.Below.{below}
-use Rattle.rules.specs.Refusals.{afterTheYear, stepsTooShort, rankTooLarge, noSuchCursor, outputTooShort, refusal}
+use Rattle.rules.specs.Refusals.{notInTheYear, stepsTooShort, rankTooLarge, noSuchCursor, outputTooShort, refusal}
 use Rattle.rules.specs.Paper.{Paper}
 use Rattle.clock.specs.declared.Clocked.{Clocked}
 use Rattle.clock.specs.declared.Clocked.the-variants as clocks
@@ -52,7 +52,7 @@ clocked : (s : ℕ) → (r : Clocked) × Clock s r
 clocked s =
     choose clock.paperOf (ltb s (clock.daySteps * clock.yearDays))
     (clocks.At (record { day = s / clock.daySteps + 1; hour = s % clock.daySteps / clock.hourSteps; minute = s % clock.hourSteps * clock.stepMinutes }))
-    (clocks.Refused (refusal afterTheYear 0))
+    (clocks.Refused (refusal notInTheYear 0))
 
 checked : (v : Verdict) → (r : Checked) × (read.paperOf r ≡ read.checkPaper v)
 checked (taken xs) = (checks.Accepted (length xs), refl)

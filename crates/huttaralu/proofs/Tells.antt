@@ -13,7 +13,7 @@ use Rattle.lists.proofs.Choice.{either-way}
 use Rattle.rules.specs.declared.Refusal as rules
 use Rattle.rules.specs.Limits.{mostSteps}
 use Rattle.rules.specs.Sizes.{workFor}
-use Rattle.rules.specs.Refusals.{refusal, rankTooLarge, noSuchCursor, stepsTooShort, outputTooShort, afterTheYear}
+use Rattle.rules.specs.Refusals.{refusal, rankTooLarge, noSuchCursor, stepsTooShort, outputTooShort, notInTheYear}
 use Rattle.rules.specs.Paper.{Paper, refusing}
 use Rattle.image.specs.Verdict.{Verdict, taken, refused, verdict}
 use Rattle.image.proofs.Named.{NamedVerdict, named-verdict}
@@ -159,4 +159,4 @@ pub clock-of-tells : (step : ℕ) → clockPaper (says.clock-of step) ≡ clock.
 clock-of-tells step =
     either-way (λ (p : Paper). clockPaper (clockOf p) ≡ p) (ltb step (clock.daySteps * clock.yearDays))
     refl
-    (tells-refusal clock.values (refusal afterTheYear 0) (omega arith))
+    (tells-refusal clock.values (refusal notInTheYear 0) (omega arith))

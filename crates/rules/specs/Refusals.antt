@@ -43,8 +43,8 @@ abbrev pub badRow : ℕ
 badRow = 10
 
 -- a list that is not strictly increasing
-abbrev pub notRising : ℕ
-notRising = 11
+abbrev pub notIncreasing : ℕ
+notIncreasing = 11
 
 -- a step above the largest
 abbrev pub stepTooLarge : ℕ
@@ -71,8 +71,8 @@ abbrev pub rankTooLarge : ℕ
 rankTooLarge = 17
 
 -- a step after the year's last, given to the clock
-abbrev pub afterTheYear : ℕ
-afterTheYear = 18
+abbrev pub notInTheYear : ℕ
+notInTheYear = 18
 
 -- a cursor that is not the one its rank has in this image
 abbrev pub noSuchCursor : ℕ

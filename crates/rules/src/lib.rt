@@ -50,7 +50,7 @@ pub const WRONG_LAST: u32 = 9;
 
 pub const BAD_ROW: u32 = 10;
 
-pub const NOT_RISING: u32 = 11;
+pub const NOT_INCREASING: u32 = 11;
 
 pub const STEP_TOO_LARGE: u32 = 12;
 
@@ -64,7 +64,7 @@ pub const STEPS_TOO_SHORT: u32 = 16;
 
 pub const RANK_TOO_LARGE: u32 = 17;
 
-pub const AFTER_THE_YEAR: u32 = 18;
+pub const NOT_IN_THE_YEAR: u32 = 18;
 
 pub const NO_SUCH_CURSOR: u32 = 19;
 

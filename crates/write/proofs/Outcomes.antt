@@ -12,7 +12,7 @@ use Rattle.lists.specs.Choice.{pick}
 use Rattle.lists.proofs.Stores.{sets-front}
 use Rattle.rules.specs.Limits.{mostSteps}
 use Rattle.rules.specs.Sizes.{numberSize, workFor}
-use Rattle.rules.specs.Refusals.{tooManySteps, stepTooLarge, notRising, workTooShort, outputTooShort, refusal}
+use Rattle.rules.specs.Refusals.{tooManySteps, stepTooLarge, notIncreasing, workTooShort, outputTooShort, refusal}
 use Rattle.rules.specs.Listed.{Listed}
 use Rattle.plan.specs.declared.Totals.{Totals}
 use Rattle.plan.specs.Planned.{Planned}
@@ -35,7 +35,7 @@ module _ (xs : List ℕ) (work out : ℕ) where
   outcome-above n h = rw (le-ltb mostSteps (length xs) n, lt-ltb (firstAbove xs) (length xs) h)
 
   pub outcome-fall : length xs ≤ mostSteps → length xs ≤ firstAbove xs → firstFall xs < length xs
-      → outcome xs work out ≡ refused notRising (firstFall xs)
+      → outcome xs work out ≡ refused notIncreasing (firstFall xs)
   outcome-fall n a h =
       rw (le-ltb mostSteps (length xs) n, le-ltb (firstAbove xs) (length xs) a, lt-ltb (firstFall xs) (length xs) h)
 

@@ -7,7 +7,7 @@ use lib.ListN.{length, drop, replicate}
 use Rattle.lists.specs.Choice.{pick}
 use Rattle.rules.specs.Limits.{mostSteps}
 use Rattle.rules.specs.Sizes.{workFor}
-use Rattle.rules.specs.Refusals.{tooManySteps, stepTooLarge, notRising, workTooShort, outputTooShort, refusal}
+use Rattle.rules.specs.Refusals.{tooManySteps, stepTooLarge, notIncreasing, workTooShort, outputTooShort, refusal}
 use Rattle.rules.specs.Paper.{Paper, accepting, refusing}
 use Rattle.write.specs.declared.Counted.{Counted}
 use Rattle.write.specs.declared.Counted.the-variants.{Accepted, Refused}
@@ -34,7 +34,7 @@ abbrev pub outcome : List ℕ → ℕ → ℕ → Outcome
 outcome xs work out =
     pick (ltb mostSteps (length xs)) (refused tooManySteps 0)
     (pick (ltb (firstAbove xs) (length xs)) (refused stepTooLarge (firstAbove xs))
-    (pick (ltb (firstFall xs) (length xs)) (refused notRising (firstFall xs))
+    (pick (ltb (firstFall xs) (length xs)) (refused notIncreasing (firstFall xs))
     (pick (ltb work (workFor (length xs))) (refused workTooShort (workFor (length xs)))
     (pick (ltb out (length (imageFor xs))) unplaced placed))))
 

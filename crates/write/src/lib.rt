@@ -227,7 +227,7 @@ pub fn write(list: &[u32], work: &mut [u32], out: &mut [u8]) -> Counted
         return refuse(rules::STEP_TOO_LARGE, above);
     }
     if fall < n {
-        return refuse(rules::NOT_RISING, fall);
+        return refuse(rules::NOT_INCREASING, fall);
     }
     let need = rules::work_for(n);
     if work.len() < need {

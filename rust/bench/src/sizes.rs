@@ -1,5 +1,7 @@
 //! What a list costs in bytes, by the image and by other ways to store it.
 
+use limits::{COUNTS_SIZE, ENTRY_SIZE};
+
 /// Bytes of one list.
 pub struct Sizes {
     /// The image that the library writes.
@@ -13,9 +15,6 @@ pub struct Sizes {
     /// An image that is cut every 128 steps, each block by its cheaper kind.
     pub blocks_of_128: usize,
 }
-
-const COUNTS: usize = 8;
-const ENTRY: usize = 13;
 
 fn codes(list: &[u32], past: u32) -> usize {
     let mut past = past;
@@ -40,9 +39,9 @@ impl Sizes {
     /// The sizes of a list that keeps the rules.
     pub fn of(list: &[u32]) -> Sizes {
         let mut past = 0;
-        let mut blocks_of_128 = COUNTS;
+        let mut blocks_of_128 = COUNTS_SIZE;
         for block in list.chunks(128) {
-            blocks_of_128 += ENTRY + codes(block, past).min(row(block, past));
+            blocks_of_128 += ENTRY_SIZE + codes(block, past).min(row(block, past));
             past = block[block.len() - 1] + 1;
         }
         #[cfg(feature = "croaring")]
@@ -52,8 +51,8 @@ impl Sizes {
         Sizes {
             image: huttaralu::write(list).expect("the sets keep the rules").bytes().len(),
             croaring,
-            codes: COUNTS + ENTRY + codes(list, 0),
-            row: COUNTS + ENTRY + row(list, 0),
+            codes: COUNTS_SIZE + ENTRY_SIZE + codes(list, 0),
+            row: COUNTS_SIZE + ENTRY_SIZE + row(list, 0),
             blocks_of_128,
         }
     }

@@ -15,7 +15,7 @@ use std::path::PathBuf;
 use std::process::ExitCode;
 
 use clap::{Parser, Subcommand, ValueEnum};
-use huttaralu::{Image, ImageBuf, Kind, Refusal, Side};
+use huttaralu::{Image, ImageBuf, Kind, Reason, Refusal, Side};
 
 use files::{name_of, read_bytes, read_text, say, write_bytes, write_image};
 use text::{moment, stretches, Moment};
@@ -230,7 +230,8 @@ fn write(text: &std::path::Path, output: &Output) -> Result<(), Trouble> {
         text::steps(&words).map_err(|mistake| Trouble::misused(format!("{}: {mistake}", name_of(text))))?;
     let steps: Vec<u32> = list.iter().map(|listed| listed.step).collect();
     let image = huttaralu::write(&steps).map_err(|refusal| {
-        let line = matches!(refusal.number(), 11 | 12).then(|| list[refusal.place() as usize].line);
+        let line = matches!(refusal.reason(), Reason::NotIncreasing | Reason::StepTooLarge)
+            .then(|| list[refusal.place() as usize].line);
         let name = name_of(text);
         Trouble::refused(line.map_or(name.clone(), |line| format!("{name}, line {line}")), refusal)
     })?;

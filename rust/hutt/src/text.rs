@@ -63,7 +63,7 @@ pub fn moment(word: &str) -> Result<Moment, String> {
         (Some(day @ 1..=DAYS_IN_A_YEAR), Some(hour @ 0..=23), Some(minute @ 0..=59)) => {
             Ok(Moment((day - 1) * STEPS_IN_A_DAY + hour * 10 + minute.div_ceil(6)))
         }
-        _ => Err("a day and time is as 139/02:06, with days 1 to 365".into()),
+        _ => Err(format!("a day and time is as 139/02:06, with days 1 to {DAYS_IN_A_YEAR}")),
     }
 }
 
@@ -133,7 +133,7 @@ mod tests {
         assert_eq!(moment("1/00:00"), Ok(Moment(0)));
         assert_eq!(moment("2/13:30"), Ok(Moment(375)));
         assert_eq!(moment("2/13:31"), Ok(Moment(376)));
-        assert_eq!(moment("365/23:54"), Ok(Moment(87_599)));
+        assert_eq!(moment("365/23:54"), Ok(Moment(STEPS_IN_A_YEAR - 1)));
         for wrong in ["0/00:00", "366/00:00", "1/24:00", "1/00:60", "x", "-1", "4294967296"] {
             assert!(moment(wrong).is_err(), "{wrong}");
         }

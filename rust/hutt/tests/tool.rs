@@ -5,6 +5,9 @@ use std::io::Write;
 use std::path::{Path, PathBuf};
 use std::process::{Command, Output, Stdio};
 
+use huttaralu::STEPS_IN_A_DAY;
+use limits::{COUNTS_SIZE, ENTRY_SIZE, LARGEST_STEP, MOST_STEPS, STEPS_IN_A_YEAR};
+
 /// A folder that goes when the test ends.
 struct Folder(PathBuf);
 
@@ -66,6 +69,11 @@ fn words(status: i32, arguments: &[&str], input: &[u8]) -> String {
     String::from_utf8(output.stderr).unwrap()
 }
 
+/// The text of the steps below `n`.
+fn first_steps(n: usize) -> Vec<u8> {
+    format!("0-{}", n - 1).into_bytes()
+}
+
 const TWO_BLOCKS: &[u8] = &[
     2, 0, 0, 0, //
     1, 0x0F, 0, 0, 0, 0x10, 0, 0, 0, 2, 0, 0, 0, //
@@ -91,12 +99,13 @@ fn refuses_lists_by_line() {
         "hutt: standard input, line 2: refusal 11 (index 1): list not strictly increasing\n"
     );
     assert_eq!(
-        words(1, &["write"], b"5 4\n3\n16777216"),
-        "hutt: standard input, line 3: refusal 12 (index 3): a step above 16,777,215\n"
+        words(1, &["write"], format!("5 4\n3\n{}", LARGEST_STEP + 1).as_bytes()),
+        "hutt: standard input, line 3: refusal 12 (index 3): a step above the largest step\n"
     );
     assert!(words(1, &["write"], b"99999999999999").contains("refusal 12 (index 0)"));
-    assert!(words(1, &["write"], b"0-1048576").contains("refusal 13"));
-    assert_eq!(printed(&["write"], b"0-1048575").len(), 8 + 13 + 131_072);
+    assert!(words(1, &["write"], &first_steps(MOST_STEPS + 1)).contains("refusal 13"));
+    let row = MOST_STEPS / 8;
+    assert_eq!(printed(&["write"], &first_steps(MOST_STEPS)).len(), COUNTS_SIZE + ENTRY_SIZE + row);
 }
 
 #[test]
@@ -133,8 +142,9 @@ fn reads_in_three_forms() {
         (0..16).map(|step| format!("{step}\n")).collect::<String>() + "100000\n"
     );
     assert_eq!(lines(&["read", "--as", "stretches"], TWO_BLOCKS), "0-15\n100000\n");
+    let ends_of_the_year = format!("0-15 {}-{}", STEPS_IN_A_YEAR - 10, STEPS_IN_A_YEAR - 1);
     assert_eq!(
-        lines(&["read", "--as", "clock", "-"], &printed(&["write"], b"0-15 87590-87599")),
+        lines(&["read", "--as", "clock", "-"], &printed(&["write"], ends_of_the_year.as_bytes())),
         "day 1, 00:00 until day 1, 01:36\nday 365, 23:00 until the end of the year\n"
     );
     assert!(words(1, &["read"], &TWO_BLOCKS[..38]).contains("refusal 1 "));
@@ -203,8 +213,8 @@ fn pairs_name_the_side_that_is_refused() {
 #[test]
 fn a_result_can_be_too_long() {
     let folder = Folder::new("long");
-    let low = folder.file("low", &printed(&["write"], b"0-1048575"));
-    let high = folder.file("high", &printed(&["write"], b"1048576"));
+    let low = folder.file("low", &printed(&["write"], &first_steps(MOST_STEPS)));
+    let high = folder.file("high", &printed(&["write"], MOST_STEPS.to_string().as_bytes()));
     let said = words(1, &["either", &low, &high], b"");
     assert!(said.starts_with("hutt: the result: refusal 13 "), "{said}");
 }
@@ -221,10 +231,11 @@ fn lists_blocks() {
 
 #[test]
 fn tells_the_time() {
-    assert_eq!(lines(&["clock", "0", "87599"], b""), "day 1, 00:00\nday 365, 23:54\n");
+    let (last, after) = ((STEPS_IN_A_YEAR - 1).to_string(), STEPS_IN_A_YEAR.to_string());
+    assert_eq!(lines(&["clock", "0", &last], b""), "day 1, 00:00\nday 365, 23:54\n");
     assert_eq!(
-        words(1, &["clock", "87600"], b""),
-        "hutt: step 87600: refusal 18 (place 0): step above 87,599 given to the clock\n"
+        words(1, &["clock", &after], b""),
+        format!("hutt: step {after}: refusal 18 (place 0): step after the year given to the clock\n")
     );
     assert!(words(2, &["clock", "noon"], b"").contains("noon"));
 }
@@ -254,8 +265,9 @@ fn plots_a_whole_year_by_columns() {
     let svg = lines(&["plot", "-"], &printed(&["write"], year.as_bytes()));
     assert!(svg.contains("Each column is a day"));
     assert!(svg.len() < 100_000);
-    let longest = printed(&["write"], b"0 16777215");
-    assert!(lines(&["plot", "-"], &longest).contains("Days 1 to 69906"));
+    let longest = printed(&["write"], format!("0 {LARGEST_STEP}").as_bytes());
+    let days = LARGEST_STEP / STEPS_IN_A_DAY + 1;
+    assert!(lines(&["plot", "-"], &longest).contains(&format!("Days 1 to {days}")));
 }
 
 #[test]
@@ -273,7 +285,8 @@ fn demo_answers_the_pupil() {
     for picture in ["question.svg", "year.svg"] {
         assert!(fs::read_to_string(format!("{into}/{picture}")).unwrap().ends_with("</svg>\n"));
     }
-    assert!(words(2, &["demo", "--into", &into, "--at", "87600"], b"").contains("not in the year"));
+    let after = STEPS_IN_A_YEAR.to_string();
+    assert!(words(2, &["demo", "--into", &into, "--at", &after], b"").contains("not in the year"));
 }
 
 #[test]

@@ -220,9 +220,9 @@ impl FusedIterator for Steps {}
 
 /// Writes a list of steps as the shortest image that it can have.
 ///
-/// Refusals, in this order: 13 for more than 1,048,576 steps, 12 for a step above 16,777,215, 11 for a list
-/// that does not rise. A work area of 64 bytes a step is allocated meanwhile;
-/// [`write_into`](crate::write_into) takes a lent one.
+/// Refusals, in this order: 13 for more than [`MOST_STEPS`] steps, 12 for a step above
+/// [`LARGEST_STEP`](crate::LARGEST_STEP), 11 for a list that does not rise. A work area of 64 bytes a step is
+/// allocated meanwhile; [`write_into`](crate::write_into) takes a lent one.
 ///
 /// ```
 /// use huttaralu::write;
@@ -258,7 +258,7 @@ pub fn both(first: impl AsRef<[u8]>, second: impl AsRef<[u8]>) -> Result<ImageBu
 
 /// Writes the shortest image of the steps that at least one of two images has.
 ///
-/// Refusals: 1 to 10 for the first image, then for the second; 13 for a result of more than 1,048,576 steps.
+/// Refusals: 1 to 10 for the first image, then for the second; 13 for a result of more than [`MOST_STEPS`] steps.
 ///
 /// ```
 /// use huttaralu::{either, write};

@@ -6,10 +6,9 @@
 use core::iter::FusedIterator;
 use core::ops::Range;
 
-use crate::Image;
+use limits::{ENTRY_SIZE, NUMBER_SIZE};
 
-const COUNT: usize = 4;
-const ENTRY: usize = 13;
+use crate::Image;
 
 /// How a block keeps its steps.
 #[derive(Clone, Copy, Debug, PartialEq, Eq, Hash)]
@@ -113,9 +112,9 @@ pub struct Blocks<'a> {
 
 impl<'a> Blocks<'a> {
     pub(crate) fn of(image: Image<'a>) -> Self {
-        let (count, rest) = image.bytes().split_at(COUNT);
-        let (entries, rest) = rest.split_at(number(count) as usize * ENTRY);
-        Blocks { entries, payload: &rest[COUNT..], upto: 0, end: 0 }
+        let (count, rest) = image.bytes().split_at(NUMBER_SIZE);
+        let (entries, rest) = rest.split_at(number(count) as usize * ENTRY_SIZE);
+        Blocks { entries, payload: &rest[NUMBER_SIZE..], upto: 0, end: 0 }
     }
 }
 
@@ -126,7 +125,7 @@ impl<'a> Iterator for Blocks<'a> {
         if self.entries.is_empty() {
             return None;
         }
-        let (entry, rest) = self.entries.split_at(ENTRY);
+        let (entry, rest) = self.entries.split_at(ENTRY_SIZE);
         let (last, upto, end) = (number(&entry[1..]), number(&entry[5..]), number(&entry[9..]) as usize);
         let block = Block {
             kind: if entry[0] == 0 { Kind::Codes } else { Kind::Row },
@@ -140,7 +139,7 @@ impl<'a> Iterator for Blocks<'a> {
     }
 
     fn size_hint(&self) -> (usize, Option<usize>) {
-        let blocks = self.entries.len() / ENTRY;
+        let blocks = self.entries.len() / ENTRY_SIZE;
         (blocks, Some(blocks))
     }
 }

@@ -55,23 +55,18 @@ pub use clock::Clock;
 pub use cursor::Cursor;
 pub use image::Image;
 #[doc(inline)]
+pub use limits::{LARGEST_STEP, MOST_STEPS, STEPS_IN_A_YEAR};
+#[doc(inline)]
 pub use plain::{
     both as both_into, clock_of, either as either_into, without as without_into, write as write_into,
     Counted, Found,
 };
 pub use refusal::{Reason, Refusal, Side};
 
-/// The largest step.
-pub const LARGEST_STEP: u32 = 16_777_215;
-
-/// The largest number of steps in a list.
-pub const MOST_STEPS: usize = 1_048_576;
+use limits::{COUNTS_SIZE, ENTRY_SIZE, WORK_SHARE};
 
 /// The steps of a day: one every six minutes.
 pub const STEPS_IN_A_DAY: u32 = 240;
-
-/// The steps of a year of 365 days, which are those that have a clock.
-pub const STEPS_IN_A_YEAR: u32 = 365 * STEPS_IN_A_DAY;
 
 /// The numbers of work that writing n steps borrows.
 ///
@@ -80,7 +75,7 @@ pub const STEPS_IN_A_YEAR: u32 = 365 * STEPS_IN_A_DAY;
 /// assert_eq!(huttaralu::work_needed(99), 1600);
 /// ```
 pub const fn work_needed(n: usize) -> usize {
-    16 * (n + 1)
+    WORK_SHARE * (n + 1)
 }
 
 /// A number of bytes that the image of any n steps fits.
@@ -96,14 +91,12 @@ pub const fn work_needed(n: usize) -> usize {
 /// # Ok::<(), huttaralu::Refusal>(())
 /// ```
 pub const fn most_bytes(n: usize) -> usize {
-    const COUNTS: usize = 8;
-    const ENTRY: usize = 13;
     const ROW: usize = (LARGEST_STEP as usize + 1) / 8;
     if n == 0 {
-        COUNTS
+        COUNTS_SIZE
     } else if n < ROW / 4 {
-        COUNTS + ENTRY + 4 * n
+        COUNTS_SIZE + ENTRY_SIZE + 4 * n
     } else {
-        COUNTS + ENTRY + ROW
+        COUNTS_SIZE + ENTRY_SIZE + ROW
     }
 }

@@ -88,9 +88,9 @@ pub fn read(image: &[u8], steps: &mut [u32]) -> Result<usize, Refusal> {
 /// numbers of `work` are 0. The rest of both is unchanged. A refusal changes neither, except 15, which leaves
 /// `work` as acceptance does.
 ///
-/// Refusals, in this order: 13 for more than 1,048,576 steps, 12 for a step above 16,777,215, 11 for a list
-/// that does not rise, 14 if `work` is too short, 15 if `out` is shorter than the image. Cost: a number of
-/// passes over the list and its work area.
+/// Refusals, in this order: 13 for more than [`MOST_STEPS`](crate::MOST_STEPS) steps, 12 for a step above
+/// [`LARGEST_STEP`](crate::LARGEST_STEP), 11 for a list that does not rise, 14 if `work` is too short, 15 if
+/// `out` is shorter than the image. Cost: a number of passes over the list and its work area.
 ///
 /// ```
 /// use huttaralu::{work_needed, write_into, Counted};
@@ -202,8 +202,9 @@ pub fn skip(cursor: Cursor, image: &[u8], bound: u32) -> Result<Cursor, Refusal>
 /// changes none, except 15, which leaves `steps` and `work` as acceptance does.
 ///
 /// Refusals, in this order: 1 to 10 for the first image, then for the second, with the [side](Refusal::side);
-/// 13 for a result of more than 1,048,576 steps, 16 if `steps` is too short for the result, 14 if `work` is,
-/// 15 if `out` is. Cost: three passes over each image, to check, count and store, and then that of writing.
+/// 13 for a result of more than [`MOST_STEPS`](crate::MOST_STEPS) steps, 16 if `steps` is too short for the
+/// result, 14 if `work` is, 15 if `out` is. Cost: three passes over each image, to check, count and store, and
+/// then that of writing.
 ///
 /// ```
 /// use huttaralu::{both_into, work_needed, write, Counted};
@@ -275,13 +276,13 @@ pub fn without(
 
 /// Answers the day, hour and minute of a step of the year.
 ///
-/// Refusals: 18 for a step above 87,599.
+/// Refusals: 18 for a step that is not below [`STEPS_IN_A_YEAR`](crate::STEPS_IN_A_YEAR).
 ///
 /// ```
-/// use huttaralu::{clock_of, Clock};
+/// use huttaralu::{clock_of, Clock, STEPS_IN_A_YEAR};
 ///
-/// assert_eq!(clock_of(87_599)?, Clock { day: 365, hour: 23, minute: 54 });
-/// assert_eq!(clock_of(87_600).unwrap_err().number(), 18);
+/// assert_eq!(clock_of(STEPS_IN_A_YEAR - 1)?, Clock { day: 365, hour: 23, minute: 54 });
+/// assert_eq!(clock_of(STEPS_IN_A_YEAR).unwrap_err().number(), 18);
 /// # Ok::<(), huttaralu::Refusal>(())
 /// ```
 pub fn clock_of(step: u32) -> Result<Clock, Refusal> {

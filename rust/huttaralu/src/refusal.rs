@@ -4,74 +4,76 @@ use core::fmt;
 
 use crate::ffi;
 
-/// Why something is refused: the rows of the rules' table, by number.
-#[derive(Clone, Copy, Debug, PartialEq, Eq, PartialOrd, Ord, Hash)]
-#[repr(u32)]
-pub enum Reason {
-    /// 1: fewer bytes than the counts say, or too few to read them.
-    TooFewBytes = 1,
-    /// 2: bytes after the payload.
-    BytesLeftOver = 2,
-    /// 3: kind above 1.
-    Kind = 3,
-    /// 4: last above 16,777,215 or not above "before".
-    Last = 4,
-    /// 5: upto not above the earlier one, or above 1,048,576.
-    Upto = 5,
-    /// 6: end not above the earlier one, or above p; or the final end is not p.
-    End = 6,
-    /// 7: a code starts with 80 hex, or its fourth byte has the high bit, or the block ends inside it.
-    Code = 7,
-    /// 8: number of steps in the block is not upto less the earlier upto.
-    Count = 8,
-    /// 9: the block's last step is not the stated one.
-    LastStep = 9,
-    /// 10: row of the wrong length, or a 1 past the span.
-    Row = 10,
-    /// 11: list not strictly increasing.
-    NotIncreasing = 11,
-    /// 12: a step above 16,777,215.
-    StepTooLarge = 12,
-    /// 13: more than 1,048,576 steps in a list or result.
-    TooManySteps = 13,
-    /// 14: work area too short.
-    WorkTooShort = 14,
-    /// 15: output shorter than the image.
-    OutputTooShort = 15,
-    /// 16: step buffer too short.
-    StepsTooShort = 16,
-    /// 17: rank not below n.
-    RankTooLarge = 17,
-    /// 18: step above 87,599 given to the clock.
-    NotInTheYear = 18,
-    /// 19: cursor is not the one its rank has in this image.
-    OtherCursor = 19,
+/// Makes [`Reason`] from the rows of the table, in the order of their numbers. A row has its name, its number
+/// and its words here and nowhere else.
+macro_rules! reasons {
+    ($(#[$about:meta])* $($name:ident = $number:literal: $words:literal,)+) => {
+        $(#[$about])*
+        #[derive(Clone, Copy, Debug, PartialEq, Eq, PartialOrd, Ord, Hash)]
+        #[non_exhaustive]
+        #[repr(u32)]
+        pub enum Reason {
+            $(#[doc = concat!($number, ": ", $words, ".")] $name = $number,)+
+        }
+
+        impl Reason {
+            /// All reasons, in the order of their numbers, which start at 1.
+            pub const ALL: &'static [Reason] = &[$(Reason::$name),+];
+
+            /// The words of the table.
+            ///
+            /// ```
+            /// use huttaralu::Reason;
+            /// assert_eq!(Reason::RankTooLarge.words(), "rank not below n");
+            /// ```
+            pub const fn words(self) -> &'static str {
+                match self {
+                    $(Reason::$name => $words,)+
+                }
+            }
+        }
+    };
+}
+
+reasons! {
+    /// Why something is refused: the rows of the rules' table, by number.
+    ///
+    /// The table can grow, so a `match` needs an arm for reasons to come:
+    ///
+    /// ```
+    /// use huttaralu::{write, Reason};
+    ///
+    /// let said = match write(&[5, 5]).unwrap_err().reason() {
+    ///     Reason::NotIncreasing => "in the wrong order",
+    ///     Reason::StepTooLarge => "too far in the future",
+    ///     _ => "refused for another reason",
+    /// };
+    /// assert_eq!(said, "in the wrong order");
+    /// ```
+
+    TooFewBytes = 1: "fewer bytes than the counts say, or too few to read them",
+    BytesLeftOver = 2: "bytes after the payload",
+    UnknownKind = 3: "kind above 1",
+    BadLast = 4: "last above the largest step or not above \"before\"",
+    BadUpto = 5: "upto not above the earlier one (0 at first), or more steps than a list may have",
+    BadEnd = 6: "end not above the earlier one (0 at first), or above p; \
+                 after all entries: final end (0 if m = 0) not p",
+    BadCode = 7: "a code starts with 80 hex, or its fourth byte has the high bit, or the block ends inside it",
+    WrongCount = 8: "number of steps in the block isn't upto less the earlier upto",
+    WrongLast = 9: "the block's last step isn't the stated one",
+    BadRow = 10: "row of the wrong length, or a 1 past the span",
+    NotIncreasing = 11: "list not strictly increasing",
+    StepTooLarge = 12: "a step above the largest step",
+    TooManySteps = 13: "more steps in a list or result than a list may have",
+    WorkTooShort = 14: "work area too short",
+    OutputTooShort = 15: "output shorter than the image",
+    StepsTooShort = 16: "step buffer too short",
+    RankTooLarge = 17: "rank not below n",
+    NotInTheYear = 18: "step after the year given to the clock",
+    NoSuchCursor = 19: "cursor isn't the one its rank has in this image",
 }
 
 impl Reason {
-    /// All reasons, in the order of their numbers, which start at 1.
-    pub const ALL: [Reason; 19] = [
-        Reason::TooFewBytes,
-        Reason::BytesLeftOver,
-        Reason::Kind,
-        Reason::Last,
-        Reason::Upto,
-        Reason::End,
-        Reason::Code,
-        Reason::Count,
-        Reason::LastStep,
-        Reason::Row,
-        Reason::NotIncreasing,
-        Reason::StepTooLarge,
-        Reason::TooManySteps,
-        Reason::WorkTooShort,
-        Reason::OutputTooShort,
-        Reason::StepsTooShort,
-        Reason::RankTooLarge,
-        Reason::NotInTheYear,
-        Reason::OtherCursor,
-    ];
-
     /// The number in the table.
     ///
     /// ```
@@ -81,42 +83,26 @@ impl Reason {
     pub const fn number(self) -> u32 {
         self as u32
     }
-
-    /// The words of the table.
-    ///
-    /// ```
-    /// use huttaralu::Reason;
-    /// assert_eq!(Reason::RankTooLarge.words(), "rank not below n");
-    /// ```
-    pub const fn words(self) -> &'static str {
-        match self {
-            Reason::TooFewBytes => "fewer bytes than the counts say, or too few to read them",
-            Reason::BytesLeftOver => "bytes after the payload",
-            Reason::Kind => "kind above 1",
-            Reason::Last => "last above 16,777,215 or not above \"before\"",
-            Reason::Upto => "upto not above the earlier one (0 at first), or above 1,048,576",
-            Reason::End => {
-                "end not above the earlier one (0 at first), or above p; \
-                 after all entries: final end (0 if m = 0) not p"
-            }
-            Reason::Code => {
-                "a code starts with 80 hex, or its fourth byte has the high bit, or the block ends inside it"
-            }
-            Reason::Count => "number of steps in the block isn't upto less the earlier upto",
-            Reason::LastStep => "the block's last step isn't the stated one",
-            Reason::Row => "row of the wrong length, or a 1 past the span",
-            Reason::NotIncreasing => "list not strictly increasing",
-            Reason::StepTooLarge => "a step above 16,777,215",
-            Reason::TooManySteps => "more than 1,048,576 steps in a list or result",
-            Reason::WorkTooShort => "work area too short",
-            Reason::OutputTooShort => "output shorter than the image",
-            Reason::StepsTooShort => "step buffer too short",
-            Reason::RankTooLarge => "rank not below n",
-            Reason::NotInTheYear => "step above 87,599 given to the clock",
-            Reason::OtherCursor => "cursor isn't the one its rank has in this image",
-        }
-    }
 }
+
+/// A `match` that names every reason, and has no arm for others, is not compiled.
+///
+/// ```compile_fail,E0004
+/// use huttaralu::Reason;
+///
+/// fn is_of_the_buffers(reason: Reason) -> bool {
+///     match reason {
+///         Reason::WorkTooShort | Reason::OutputTooShort | Reason::StepsTooShort => true,
+///         Reason::TooFewBytes | Reason::BytesLeftOver | Reason::UnknownKind | Reason::BadLast => false,
+///         Reason::BadUpto | Reason::BadEnd | Reason::BadCode | Reason::WrongCount => false,
+///         Reason::WrongLast | Reason::BadRow | Reason::NotIncreasing | Reason::StepTooLarge => false,
+///         Reason::TooManySteps | Reason::RankTooLarge | Reason::NotInTheYear => false,
+///         Reason::NoSuchCursor => false,
+///     }
+/// }
+/// ```
+#[cfg(doctest)]
+struct MatchesGrow;
 
 /// Which of the two images of a pair.
 #[derive(Clone, Copy, Debug, PartialEq, Eq, PartialOrd, Ord, Hash)]
@@ -148,8 +134,8 @@ impl Refusal {
     /// Which row of the table.
     ///
     /// ```
-    /// use huttaralu::{clock_of, Reason};
-    /// assert_eq!(clock_of(87_600).unwrap_err().reason(), Reason::NotInTheYear);
+    /// use huttaralu::{clock_of, Reason, STEPS_IN_A_YEAR};
+    /// assert_eq!(clock_of(STEPS_IN_A_YEAR).unwrap_err().reason(), Reason::NotInTheYear);
     /// ```
     pub const fn reason(self) -> Reason {
         self.reason
@@ -158,7 +144,8 @@ impl Refusal {
     /// The number in the table.
     ///
     /// ```
-    /// assert_eq!(huttaralu::clock_of(87_600).unwrap_err().number(), 18);
+    /// use huttaralu::{clock_of, STEPS_IN_A_YEAR};
+    /// assert_eq!(clock_of(STEPS_IN_A_YEAR).unwrap_err().number(), 18);
     /// ```
     pub const fn number(self) -> u32 {
         self.reason.number()
@@ -189,7 +176,8 @@ impl Refusal {
             return Ok(());
         }
         let reason = Reason::ALL
-            .into_iter()
+            .iter()
+            .copied()
             .find(|reason| reason.number() == told.number)
             .expect("the library refuses by the numbers of the table");
         let side = match told.side {
@@ -206,8 +194,12 @@ impl fmt::Display for Refusal {
         let place = self.place;
         write!(f, "refusal {} (", self.number())?;
         match self.reason {
-            Reason::Kind | Reason::Last | Reason::Upto | Reason::End => write!(f, "entry {place}"),
-            Reason::Code | Reason::Count | Reason::LastStep | Reason::Row => write!(f, "block {place}"),
+            Reason::UnknownKind | Reason::BadLast | Reason::BadUpto | Reason::BadEnd => {
+                write!(f, "entry {place}")
+            }
+            Reason::BadCode | Reason::WrongCount | Reason::WrongLast | Reason::BadRow => {
+                write!(f, "block {place}")
+            }
             Reason::NotIncreasing | Reason::StepTooLarge => write!(f, "index {place}"),
             Reason::WorkTooShort => write!(f, "{place} numbers needed"),
             Reason::OutputTooShort => write!(f, "{place} bytes needed"),
@@ -217,7 +209,7 @@ impl fmt::Display for Refusal {
             | Reason::BytesLeftOver
             | Reason::TooManySteps
             | Reason::NotInTheYear
-            | Reason::OtherCursor => write!(f, "place {place}"),
+            | Reason::NoSuchCursor => write!(f, "place {place}"),
         }?;
         match self.side {
             None => {}

@@ -1,10 +1,10 @@
 //! Every cut that could be the best, for short lists.
 
 use crate::image::{image_of, Block, Kind};
+use crate::{COUNTS_SIZE, ENTRY_SIZE};
 
-/// The bytes of the two counts, and the fewest of a block: its entry, and one of payload.
-const COUNTS: usize = 8;
-const BLOCK: usize = 13 + 1;
+/// The fewest bytes of a block: its entry, and one of payload.
+const BLOCK: usize = ENTRY_SIZE + 1;
 
 /// The shortest image of a list, and first among equals, by comparing the images of all cuts.
 ///
@@ -20,7 +20,7 @@ pub fn shortest(list: &[u32]) -> Vec<u8> {
     let of_one_block =
         cuts(0, n, 1).iter().map(|cut| image_of(list, cut).len()).min().expect("a list has a cut");
     let images =
-        cuts(0, n, (of_one_block - COUNTS) / BLOCK).into_iter().map(|cut| (image_of(list, &cut), cut));
+        cuts(0, n, (of_one_block - COUNTS_SIZE) / BLOCK).into_iter().map(|cut| (image_of(list, &cut), cut));
     let first = |(image, cut): &(Vec<u8>, Vec<Block>), (other_image, other_cut): &(Vec<u8>, Vec<Block>)| {
         image.len().cmp(&other_image.len()).then_with(|| order(cut).cmp(order(other_cut)))
     };

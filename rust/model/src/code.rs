@@ -46,7 +46,7 @@ mod tests {
         assert_eq!(code_of(128), [0x81, 0x00]);
         assert_eq!(code_of(16_384), [0x81, 0x80, 0x00]);
         assert_eq!(code_of(65_790), [0x84, 0x81, 0x7e]);
-        assert_eq!(code_of(268_435_455), [0xff, 0xff, 0xff, 0x7f]);
+        assert_eq!(code_of((1 << 28) - 1), [0xff, 0xff, 0xff, 0x7f]);
     }
 
     #[test]

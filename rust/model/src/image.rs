@@ -1,7 +1,7 @@
 //! The image of a list under a cut, and the verdict on any bytes.
 
 use crate::code::{code_of, values_of};
-use crate::{refuse, Refusal, LARGEST_STEP, MOST_STEPS};
+use crate::{refuse, Refusal, COUNTS_SIZE, ENTRY_SIZE, LARGEST_STEP, MOST_STEPS, NUMBER_SIZE};
 
 /// How a block keeps its steps.
 #[derive(Clone, Copy, Debug, PartialEq, Eq, PartialOrd, Ord)]
@@ -110,14 +110,15 @@ pub fn verdict(image: &[u8]) -> Result<Vec<u32>, Refusal> {
 
 /// The entries, the payload, and whether bytes are left over; nothing if bytes are missing.
 fn sections(image: &[u8]) -> Option<(Vec<Entry>, &[u8], bool)> {
-    let number = |at: usize| Some(u32::from_le_bytes(image.get(at..at + 4)?.try_into().ok()?));
+    let number = |at: usize| Some(u32::from_le_bytes(image.get(at..at + NUMBER_SIZE)?.try_into().ok()?));
     let m = number(0)? as usize;
-    let p = number(4 + 13 * m)? as usize;
-    let payload = image.get(8 + 13 * m..8 + 13 * m + p)?;
-    let entries = (0..m).map(|i| 4 + 13 * i).map(|at| {
+    let p = number(NUMBER_SIZE + ENTRY_SIZE * m)? as usize;
+    let start = COUNTS_SIZE + ENTRY_SIZE * m;
+    let payload = image.get(start..start + p)?;
+    let entries = (0..m).map(|i| NUMBER_SIZE + ENTRY_SIZE * i).map(|at| {
         Some(Entry { kind: image[at], last: number(at + 1)?, upto: number(at + 5)?, end: number(at + 9)? })
     });
-    Some((entries.collect::<Option<_>>()?, payload, image.len() > 8 + 13 * m + p))
+    Some((entries.collect::<Option<_>>()?, payload, image.len() > start + p))
 }
 
 /// 3 to 6 for each entry in turn, then the closing 6.

@@ -1,9 +1,9 @@
 //! Document 01 once more, in slow and obvious Rust.
 //!
-//! It follows the document and shares nothing with the library, so that the two can be held against each
-//! other. An image is judged by reading all of it into a list, every question is asked of that
-//! list, and the shortest image is found by trying every end of every block. [`brute`] goes further and tries
-//! every cut there is.
+//! It follows the document and shares nothing with the library but the limits and sizes of the header, so
+//! that the two can be held against each other. An image is judged by reading all of it into a list, every
+//! question is asked of that list, and the shortest image is found by trying every end of every block.
+//! [`brute`] goes further and tries every cut there is.
 
 pub mod brute;
 pub mod image;
@@ -13,21 +13,17 @@ mod code;
 
 pub use code::code_of;
 pub use image::{image_of, verdict, Block, Kind};
+pub use limits::{
+    COUNTS_SIZE, ENTRY_SIZE, LARGEST_STEP, MOST_STEPS, NUMBER_SIZE, STEPS_IN_A_YEAR, WORK_SHARE,
+};
 pub use plan::shortest;
 
 use std::collections::BTreeSet;
 
-/// The largest step.
-pub const LARGEST_STEP: u32 = 16_777_215;
-
-/// The largest number of steps in a list.
-pub const MOST_STEPS: usize = 1_048_576;
-
-/// The steps of a day, and of an hour; the minutes of a step; the days of a year.
+/// The steps of a day, and of an hour; the minutes of a step.
 const DAY: u32 = 240;
 const HOUR: u32 = 10;
 const MINUTES: u32 = 6;
-const DAYS: u32 = 365;
 
 /// Number, side and place of a refusal.
 #[derive(Clone, Copy, Debug, PartialEq, Eq)]
@@ -47,7 +43,7 @@ pub(crate) fn refuse<T>(number: u32, place: usize) -> Result<T, Refusal> {
 
 /// The numbers of work for n steps.
 pub fn work_for(n: usize) -> usize {
-    16 * (n + 1)
+    WORK_SHARE * (n + 1)
 }
 
 /// The number of steps.
@@ -192,7 +188,7 @@ pub fn pair(
 
 /// Day, hour and minute of a step.
 pub fn clock_of(step: u32) -> Result<(u32, u32, u32), Refusal> {
-    if step >= DAYS * DAY {
+    if step >= STEPS_IN_A_YEAR {
         return refuse(18, 0);
     }
     Ok((step / DAY + 1, step % DAY / HOUR, step % HOUR * MINUTES))

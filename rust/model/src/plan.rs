@@ -2,9 +2,7 @@
 
 use crate::code::code_of;
 use crate::image::{image_of, Block, Kind};
-
-/// The bytes of an entry, which every block costs besides its payload.
-const ENTRY: usize = 13;
+use crate::ENTRY_SIZE;
 
 /// The image with the fewest bytes; among equals the one whose first block has more steps, then codes before
 /// row, then the same two tests on the second block, and so on.
@@ -42,7 +40,7 @@ pub fn best_cut(list: &[u32]) -> Vec<Block> {
             let codes = codes_below[upto] - codes_below[from];
             let row = (past(upto) - past(from)).div_ceil(8) as usize;
             for (kind, payload) in [(Kind::Codes, codes), (Kind::Row, row)] {
-                let bytes = ENTRY + payload + fewest[upto];
+                let bytes = ENTRY_SIZE + payload + fewest[upto];
                 if bytes < fewest[from] {
                     fewest[from] = bytes;
                     chosen[from] = Block { kind, upto };
@@ -95,7 +93,7 @@ mod tests {
 
     #[test]
     fn payloads_of_document_01() {
-        let payload = |list: &[u32]| shortest(list)[4 + ENTRY + 4..].to_vec();
+        let payload = |list: &[u32]| shortest(list)[crate::COUNTS_SIZE + ENTRY_SIZE..].to_vec();
         assert_eq!(payload(&[0]), [0x00]);
         assert_eq!(payload(&[0, 7]), [0x81]);
         assert_eq!(payload(&[0, 8]), [0x00, 0x07]);

@@ -1,6 +1,6 @@
 //! The directory of an image, and what goes through all of it: checking, reading back, finding a block.
 
-use crate::{codes, row, Refusal, ENTRY_SIZE, LARGEST_STEP, MOST_STEPS};
+use crate::{codes, row, Refusal, ENTRY_SIZE, LARGEST_STEP, MOST_STEPS, NUMBER_SIZE};
 
 /// An image whose counts fit its length.
 #[derive(Clone, Copy)]
@@ -42,13 +42,13 @@ impl<'a> Parts<'a> {
     /// Cuts an image into its sections, by its counts.
     fn cut(image: &'a [u8]) -> Result<Parts<'a>, Refusal> {
         let short = Refusal::new(1, 0);
-        let (count, rest) = image.split_at_checked(4).ok_or(short)?;
+        let (count, rest) = image.split_at_checked(NUMBER_SIZE).ok_or(short)?;
         let directory = number(count) as u64 * ENTRY_SIZE as u64;
-        if directory + 4 > rest.len() as u64 {
+        if directory + NUMBER_SIZE as u64 > rest.len() as u64 {
             return Err(short);
         }
         let (entries, rest) = rest.split_at(directory as usize);
-        let (count, payload) = rest.split_at(4);
+        let (count, payload) = rest.split_at(NUMBER_SIZE);
         let length = number(count) as usize;
         if payload.len() < length {
             return Err(short);

@@ -25,21 +25,11 @@ mod write;
 
 pub use ask::{first_at, rank, start, Cursor, Found, Moved};
 pub use image::{check, read};
+pub use limits::{
+    COUNTS_SIZE, ENTRY_SIZE, LARGEST_STEP, MOST_STEPS, NUMBER_SIZE, STEPS_IN_A_YEAR, WORK_SHARE,
+};
 pub use pair::{both, either, without};
 pub use write::write;
-
-/// The largest step.
-pub const LARGEST_STEP: u32 = 16_777_215;
-/// The largest number of steps in a list.
-pub const MOST_STEPS: usize = 1_048_576;
-/// Numbers of work that a step takes, and one more share for the end.
-pub const WORK_SHARE: usize = 16;
-/// Bytes of one entry in an image's directory.
-pub const ENTRY_SIZE: usize = 13;
-/// Bytes of the two counts.
-pub const COUNTS_SIZE: usize = 8;
-/// Steps in a year of 365 days.
-pub const STEPS_IN_A_YEAR: u32 = 87_600;
 
 /// Why something was refused: the table's number, the side of a pair (else 0) and the place.
 #[derive(Clone, Copy, Debug, PartialEq, Eq)]

@@ -1,7 +1,8 @@
 //! From a list to its shortest image.
 
 use crate::plan::Plan;
-use crate::{codes, row, Counted, Refusal, COUNTS_SIZE, ENTRY_SIZE, LARGEST_STEP, MOST_STEPS, WORK_SHARE};
+use crate::{codes, row, Counted, Refusal};
+use crate::{COUNTS_SIZE, ENTRY_SIZE, LARGEST_STEP, MOST_STEPS, NUMBER_SIZE, WORK_SHARE};
 
 /// Numbers of work for a list of `count` steps.
 pub fn work_for(count: usize) -> usize {
@@ -65,9 +66,9 @@ pub fn put(list: &[u32], work: &mut [u32], out: &mut [u8]) -> Result<Counted, Re
 
 /// Fills an image whose length is right.
 fn emit(list: &[u32], blocks: &[u32], out: &mut [u8]) {
-    let (directory, rest) = out.split_at_mut(4 + ENTRY_SIZE * blocks.len());
-    let (payload_count, payload) = rest.split_at_mut(4);
-    let (directory_count, entries) = directory.split_at_mut(4);
+    let (directory, rest) = out.split_at_mut(NUMBER_SIZE + ENTRY_SIZE * blocks.len());
+    let (payload_count, payload) = rest.split_at_mut(NUMBER_SIZE);
+    let (directory_count, entries) = directory.split_at_mut(NUMBER_SIZE);
     directory_count.copy_from_slice(&(blocks.len() as u32).to_le_bytes());
     payload_count.copy_from_slice(&(payload.len() as u32).to_le_bytes());
 

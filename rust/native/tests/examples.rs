@@ -1,6 +1,7 @@
 //! Document 01's examples, and what is written against every cut of short lists.
 
 use native::{check, clock_of, first_at, rank, read, start, Clock, Counted, Cursor, Found, Moved, Refusal};
+use native::{ENTRY_SIZE, LARGEST_STEP, MOST_STEPS, NUMBER_SIZE, STEPS_IN_A_YEAR, WORK_SHARE};
 use tides::Dice;
 
 fn refusal(number: u32, place: u32) -> Refusal {
@@ -8,12 +9,12 @@ fn refusal(number: u32, place: u32) -> Refusal {
 }
 
 fn image(list: &[u32]) -> Vec<u8> {
-    let mut work = vec![7; 16 * (list.len() + 1) + 3];
+    let mut work = vec![7; WORK_SHARE * (list.len() + 1) + 3];
     let mut out = vec![0xAA; 8 + 17 * list.len() + 5];
     let written = native::write(list, &mut work, &mut out).unwrap();
     assert_eq!(written.steps as usize, list.len());
-    assert!(work[..16 * (list.len() + 1)].iter().all(|&number| number == 0));
-    assert!(work[16 * (list.len() + 1)..].iter().all(|&number| number == 7));
+    assert!(work[..WORK_SHARE * (list.len() + 1)].iter().all(|&number| number == 0));
+    assert!(work[WORK_SHARE * (list.len() + 1)..].iter().all(|&number| number == 7));
     let rest = out.split_off(written.bytes as usize);
     assert!(rest.iter().all(|&byte| byte == 0xAA));
     out
@@ -45,14 +46,15 @@ fn pair(operation: Operation, first: &[u8], second: &[u8]) -> Vec<u8> {
     let most = (check(first).unwrap() + check(second).unwrap()) as usize;
     let mut out = vec![0; 8 + 17 * most];
     let (mut exact, mut wide) = (vec![5; most + 9], vec![5; most + 9]);
-    let mut work = vec![3; 16 * (most + 1)];
+    let mut work = vec![3; WORK_SHARE * (most + 1)];
     let written = operation(first, second, &mut wide, &mut work, &mut out).unwrap();
     let count = written.steps as usize;
     assert!(wide[count..].iter().all(|&place| place == 5));
     // Buffers that are only as long as they must be take the way that counts first.
     let mut again = vec![0; written.bytes as usize];
     let same =
-        operation(first, second, &mut exact[..count], &mut work[..16 * (count + 1)], &mut again).unwrap();
+        operation(first, second, &mut exact[..count], &mut work[..WORK_SHARE * (count + 1)], &mut again)
+            .unwrap();
     out.truncate(written.bytes as usize);
     assert_eq!((same, &again), (written, &out));
     assert_eq!(exact[..count], wide[..count]);
@@ -79,7 +81,7 @@ fn examples_of_document_01() {
     assert_eq!(image(&[127, 254, 318, 408, 533]), codes);
     let gaps = image(&[128, 128 + 16_385, 128 + 16_385 + 65_791]);
     assert_eq!(gaps[21..], [0x81, 0x00, 0x81, 0x80, 0x00, 0x84, 0x81, 0x7E]);
-    assert_eq!(steps(&image(&[16_777_215])), [16_777_215]);
+    assert_eq!(steps(&image(&[LARGEST_STEP])), [LARGEST_STEP]);
 }
 
 #[test]
@@ -98,9 +100,9 @@ fn refusals_of_writing() {
         native::write(list, &mut vec![1; work], &mut vec![1; out]).map(|_| ())
     };
     assert_eq!(write(&[5, 5], 0, 0), Err(refusal(11, 1)));
-    assert_eq!(write(&[5, 16_777_216, 4], 0, 0), Err(refusal(12, 1)));
-    assert_eq!(write(&[5, 4, 16_777_216], 0, 0), Err(refusal(12, 2)));
-    assert_eq!(write(&vec![0; 1_048_577], 0, 0), Err(refusal(13, 0)));
+    assert_eq!(write(&[5, LARGEST_STEP + 1, 4], 0, 0), Err(refusal(12, 1)));
+    assert_eq!(write(&[5, 4, LARGEST_STEP + 1], 0, 0), Err(refusal(12, 2)));
+    assert_eq!(write(&vec![0; MOST_STEPS + 1], 0, 0), Err(refusal(13, 0)));
     assert_eq!(write(&[5, 6], 47, 0), Err(refusal(14, 48)));
     assert_eq!(write(&[5, 6], 48, 21), Err(refusal(15, 22)));
     assert_eq!(write(&[], 15, 0), Err(refusal(14, 16)));
@@ -130,8 +132,8 @@ fn questions() {
 #[test]
 fn clock() {
     assert_eq!(clock_of(0), Ok(Clock { day: 1, hour: 0, minute: 0 }));
-    assert_eq!(clock_of(87_599), Ok(Clock { day: 365, hour: 23, minute: 54 }));
-    assert_eq!(clock_of(87_600), Err(refusal(18, 0)));
+    assert_eq!(clock_of(STEPS_IN_A_YEAR - 1), Ok(Clock { day: 365, hour: 23, minute: 54 }));
+    assert_eq!(clock_of(STEPS_IN_A_YEAR), Err(refusal(18, 0)));
 }
 
 /// Bytes of the blocks of a cut, and the cut as the tie rule compares it: longer blocks, then codes, first.
@@ -156,7 +158,7 @@ fn best(list: &[u32]) -> Cut {
             for (size, is_row) in [(codes, false), (u64::from((past(j) - past(i)).div_ceil(8)), true)] {
                 let mut blocks = vec![(std::cmp::Reverse(j - i), is_row)];
                 blocks.extend(&rest.1);
-                let cut = (13 + size + rest.0, blocks);
+                let cut = (ENTRY_SIZE as u64 + size + rest.0, blocks);
                 if best[i].as_ref().is_none_or(|least| cut < *least) {
                     best[i] = Some(cut);
                 }
@@ -168,7 +170,7 @@ fn best(list: &[u32]) -> Cut {
 
 fn cut_of(image: &[u8]) -> Cut {
     let mut before = 0;
-    let blocks = image[4..image.len()].chunks(13).take(image[0] as usize + 256 * image[1] as usize);
+    let blocks = image[NUMBER_SIZE..].chunks(ENTRY_SIZE).take(image[0] as usize + 256 * image[1] as usize);
     let cut = blocks
         .map(|entry| {
             let upto = u32::from_le_bytes(entry[5..9].try_into().unwrap()) as usize;
@@ -191,7 +193,7 @@ fn mixed(dice: &mut Dice, count: usize) -> Vec<u32> {
             left = 1 + dice.below(40);
         }
         step += dice.below(wide);
-        if step > native::LARGEST_STEP {
+        if step > LARGEST_STEP {
             break;
         }
         list.push(step);
@@ -252,6 +254,6 @@ fn a_year_goes_round() {
         let year = place.year(5);
         assert_eq!(steps(&image(&year)), year);
     }
-    let list = tides::random(1, 0.3, tides::MOST_STEPS);
+    let list = tides::random(1, 0.3, MOST_STEPS);
     assert_eq!(steps(&image(&list)), list);
 }

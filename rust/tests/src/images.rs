@@ -1,15 +1,15 @@
 //! Images: the shortest, those of a cut at random, and damaged ones.
 
-use model::{image_of, shortest, Block, Kind, LARGEST_STEP, MOST_STEPS};
+use model::{
+    image_of, shortest, Block, Kind, COUNTS_SIZE, ENTRY_SIZE, LARGEST_STEP, MOST_STEPS, NUMBER_SIZE,
+};
 use proptest::collection::vec;
 use proptest::prelude::*;
 use proptest::sample::Index;
 
 use crate::lists;
 
-/// The bytes of a count, of an entry, and where in an entry its fields stand.
-const COUNT: usize = 4;
-const ENTRY: usize = 13;
+/// Where in an entry its fields stand.
 const LAST: usize = 1;
 const UPTO: usize = 5;
 const END: usize = 9;
@@ -104,6 +104,8 @@ impl Edit {
 
 fn edit() -> impl Strategy<Value = Edit> {
     const STEPS: u32 = MOST_STEPS as u32;
+    /// As many entries as 32 bits cannot count the bytes of.
+    const WRAPPING: u32 = u32::MAX / ENTRY_SIZE as u32 + 1;
     const TELLING: [u32; 10] = [
         0,
         1,
@@ -111,8 +113,8 @@ fn edit() -> impl Strategy<Value = Edit> {
         STEPS + 1,
         LARGEST_STEP,
         LARGEST_STEP + 1,
-        u32::MAX / 13,
-        u32::MAX / 13 + 1,
+        WRAPPING - 1,
+        WRAPPING,
         u32::MAX - 7,
         u32::MAX,
     ];
@@ -152,17 +154,17 @@ fn damage() -> impl Strategy<Value = Damage> {
 /// Where the entries start, if the image still has as many as it says.
 fn entries(image: &[u8]) -> Option<Vec<usize>> {
     let m = number(image, 0)? as usize;
-    (m > 0 && m <= image.len() / ENTRY && image.len() >= 2 * COUNT + ENTRY * m)
-        .then(|| (0..m).map(|i| COUNT + ENTRY * i).collect())
+    (m > 0 && m <= image.len() / ENTRY_SIZE && image.len() >= COUNTS_SIZE + ENTRY_SIZE * m)
+        .then(|| (0..m).map(|i| NUMBER_SIZE + ENTRY_SIZE * i).collect())
 }
 
 fn number(image: &[u8], at: usize) -> Option<u32> {
-    Some(u32::from_le_bytes(image.get(at..at + COUNT)?.try_into().ok()?))
+    Some(u32::from_le_bytes(image.get(at..at + NUMBER_SIZE)?.try_into().ok()?))
 }
 
 fn change(image: &mut [u8], at: usize, edit: &Edit) {
     if let Some(old) = number(image, at) {
-        image[at..at + COUNT].copy_from_slice(&edit.of(old).to_le_bytes());
+        image[at..at + NUMBER_SIZE].copy_from_slice(&edit.of(old).to_le_bytes());
     }
 }
 
@@ -171,25 +173,24 @@ fn move_ends(image: &mut [u8], entries: &[usize], from: usize, by: i8) {
     for &entry in &entries[from..] {
         change(image, entry + END, &Edit::Add(by));
     }
-    change(image, COUNT + ENTRY * entries.len(), &Edit::Add(by));
+    change(image, NUMBER_SIZE + ENTRY_SIZE * entries.len(), &Edit::Add(by));
 }
 
 /// Where a block's part of the payload ends, in the image.
 fn end_of(image: &[u8], entries: &[usize], block: usize) -> Option<usize> {
     let end = number(image, entries[block] + END)? as usize;
-    Some(2 * COUNT + ENTRY * entries.len() + end).filter(|&end| end <= image.len())
+    Some(COUNTS_SIZE + ENTRY_SIZE * entries.len() + end).filter(|&end| end <= image.len())
 }
 
 /// An image of one block of 17 codes of four bytes, as large as can be, with the remainder of its last step
 /// as the stated one.
 fn wrapped_sum() -> Vec<u8> {
     const CODES: u32 = 17;
-    const LARGEST_CODE: [u8; 4] = [0xff, 0xff, 0xff, 0x7f];
-    let last = (0..CODES).fold(0u32, |past, _| past.wrapping_add(268_435_455 + 1)).wrapping_sub(1);
-    // The steps would be 16 times 2^28 and one more: past 2^32 by 2^28 less 1, which is above the largest
-    // step. A first code that is smaller by this brings the remainder to 5.
-    let first = model::code_of(268_435_455 - (last - 5));
-    let payload = [&first[..], &LARGEST_CODE.repeat(CODES as usize - 1)].concat();
+    const LARGEST_VALUE: u32 = (1 << 28) - 1;
+    let last = (0..CODES).fold(0u32, |past, _| past.wrapping_add(LARGEST_VALUE + 1)).wrapping_sub(1);
+    // 17 times 2^28 is past 2^32 by 2^28. A first code that is smaller by nearly as much leaves 5.
+    let first = model::code_of(LARGEST_VALUE - (last - 5));
+    let payload = [first, model::code_of(LARGEST_VALUE).repeat(CODES as usize - 1)].concat();
     let p = payload.len() as u32;
     let entry = [&[0][..], &5u32.to_le_bytes(), &CODES.to_le_bytes(), &p.to_le_bytes()].concat();
     [&1u32.to_le_bytes()[..], &entry, &p.to_le_bytes(), &payload].concat()
@@ -224,9 +225,9 @@ fn befall(image: &mut Vec<u8>, damage: &Damage) {
 
 fn befall_entry(image: &mut Vec<u8>, entries: &[usize], damage: &Damage) {
     let m = entries.len();
-    let payload = 2 * COUNT + ENTRY * m;
+    let payload = COUNTS_SIZE + ENTRY_SIZE * m;
     match damage {
-        Damage::Bytes(edit) => change(image, COUNT + ENTRY * m, edit),
+        Damage::Bytes(edit) => change(image, NUMBER_SIZE + ENTRY_SIZE * m, edit),
         Damage::Kind(at, kind) => image[entries[at.index(m)]] = *kind,
         Damage::Last(at, edit) => change(image, entries[at.index(m)] + LAST, edit),
         Damage::Upto(at, edit) => change(image, entries[at.index(m)] + UPTO, edit),

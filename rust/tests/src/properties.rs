@@ -1,6 +1,6 @@
 //! What is compared. Each property takes a library and a case; the model says what is right.
 
-use model::Operation;
+use model::{Operation, LARGEST_STEP, STEPS_IN_A_YEAR};
 use proptest::collection::vec;
 use proptest::prelude::*;
 use proptest::sample::Index;
@@ -19,8 +19,7 @@ pub fn writing_case() -> impl Strategy<Value = (Vec<u32>, Room, Room)> {
 
 /// Writing gives the model's answer and leaves every buffer as the model does.
 pub fn writing(library: &dyn Library, (list, work, out): &(Vec<u32>, Room, Room)) -> Judged {
-    let accepted =
-        list.is_sorted_by(|a, b| a < b) && list.last().is_none_or(|&last| last <= model::LARGEST_STEP);
+    let accepted = list.is_sorted_by(|a, b| a < b) && list.last().is_none_or(|&last| last <= LARGEST_STEP);
     let needed = if accepted { model::shortest(list).len() } else { list.len() };
     let lent = (
         Lent::with(list),
@@ -86,12 +85,13 @@ pub enum Asked {
 
 impl Asked {
     fn any() -> impl Strategy<Value = Asked> {
+        const TELLING: [u32; 5] = [0, 1, LARGEST_STEP, LARGEST_STEP + 1, u32::MAX];
         let at = any::<Index>;
         prop_oneof![
             4 => at().prop_map(Asked::Rank),
             6 => (at(), -1..=1i8).prop_map(|(at, by)| Asked::Near(at, by)),
             1 => any::<u32>().prop_map(Asked::Any),
-            1 => prop::sample::select(&[0, 1, 16_777_215, 16_777_216, u32::MAX][..]).prop_map(Asked::Any),
+            1 => prop::sample::select(&TELLING[..]).prop_map(Asked::Any),
         ]
     }
 
@@ -219,7 +219,7 @@ pub fn pairing(library: &dyn Library, ((first, second), operation, rooms): &Pair
 
 /// A step: of the year, about its end, or any.
 pub fn clock_case() -> impl Strategy<Value = u32> {
-    prop_oneof![0..87_600u32, 87_590..87_610u32, any::<u32>()]
+    prop_oneof![0..STEPS_IN_A_YEAR, STEPS_IN_A_YEAR - 10..STEPS_IN_A_YEAR + 10, any::<u32>()]
 }
 
 /// The clock is the model's.

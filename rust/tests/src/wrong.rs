@@ -1,7 +1,7 @@
 //! Libraries with a mistake, each one that is seen in this trade. They are here to show that the properties
 //! find them.
 
-use model::{image_of, Block, Kind, Operation};
+use model::{image_of, Block, Kind, Operation, ENTRY_SIZE, NUMBER_SIZE};
 
 use crate::library::{Answer, Library, Model};
 
@@ -30,6 +30,7 @@ impl Wrong {
     /// The plan of the model with what is wrong in it. Bytes are counted in bits, so that a row may have its
     /// own.
     fn cut(self, list: &[u32]) -> Vec<Block> {
+        const ENTRY: u32 = 8 * ENTRY_SIZE as u32;
         let n = list.len();
         let past = |i: usize| if i == 0 { 0 } else { list[i - 1] + 1 };
         let mut rest = vec![0; n + 1];
@@ -42,8 +43,8 @@ impl Wrong {
                 codes += 8 * model::code_of(list[j - 1] - past(j - 1)).len() as u32;
                 let span = past(j) - past(i);
                 let row = if self == Wrong::RowsUnpadded { span } else { span.next_multiple_of(8) };
-                ends.push((8 * 13 + codes + rest[j], Block { kind: Kind::Codes, upto: j }));
-                ends.push((8 * 13 + row + rest[j], Block { kind: Kind::Row, upto: j }));
+                ends.push((ENTRY + codes + rest[j], Block { kind: Kind::Codes, upto: j }));
+                ends.push((ENTRY + row + rest[j], Block { kind: Kind::Row, upto: j }));
             }
             if self != Wrong::FewerStepsFirst {
                 ends.sort_by_key(|(_, block)| std::cmp::Reverse(block.upto));
@@ -69,14 +70,16 @@ impl Wrong {
     /// The image as one sees it who forgets the closing test: the payload ends where the last block does.
     fn cut_off(self, image: &[u8]) -> Vec<u8> {
         let refused = model::check(image).err().map(|refusal| (refusal.number, refusal.place as usize));
-        let m = image.get(..4).map_or(0, |m| u32::from_le_bytes(m.try_into().expect("four bytes")) as usize);
+        let m = image
+            .get(..NUMBER_SIZE)
+            .map_or(0, |m| u32::from_le_bytes(m.try_into().expect("four bytes")) as usize);
         if self != Wrong::ClosingTestForgotten || refused != Some((6, m)) || m == 0 {
             return image.to_vec();
         }
-        let counted = 4 + 13 * m;
-        let end: [u8; 4] = image[counted - 4..counted].try_into().expect("four bytes");
-        let payload = &image[counted + 4..counted + 4 + u32::from_le_bytes(end) as usize];
-        [&image[..counted], &end, payload].concat()
+        let (entries, rest) = image.split_at(NUMBER_SIZE + ENTRY_SIZE * m);
+        let end: [u8; NUMBER_SIZE] = *entries.last_chunk().expect("an entry ends with its end");
+        let payload = &rest[NUMBER_SIZE..NUMBER_SIZE + u32::from_le_bytes(end) as usize];
+        [entries, &end, payload].concat()
     }
 }
 

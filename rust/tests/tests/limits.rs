@@ -3,10 +3,13 @@
 
 use huttaralu_tests::lent::Lent;
 use huttaralu_tests::library::{Answer, Library, Proved};
-use model::{work_for, Operation, LARGEST_STEP, MOST_STEPS};
+use model::{
+    code_of, work_for, Operation, COUNTS_SIZE, ENTRY_SIZE, LARGEST_STEP, MOST_STEPS, STEPS_IN_A_YEAR,
+};
 
 const N: u32 = MOST_STEPS as u32;
-const COUNTS_AND_ENTRY: usize = 8 + 13;
+/// How far apart as many steps as there may be can lie.
+const APART: u32 = (LARGEST_STEP + 1) / N;
 
 fn refused(number: u32, place: usize) -> Answer {
     Answer { refusal: [number, 0, place as u32], values: [0; 3] }
@@ -47,17 +50,18 @@ fn write_and_ask(list: &[u32], right: &[u8]) {
 
 #[test]
 fn the_longest_run() {
-    // A bit a step, and a second block would cost 13 bytes more.
+    // A bit a step, and a second block would cost an entry more.
     let list: Vec<u32> = (0..N).collect();
     write_and_ask(&list, &image(1, N - 1, N, &vec![0xff; MOST_STEPS / 8]));
 }
 
 #[test]
 fn the_longest_list_that_ends_at_the_largest_step() {
-    // Sixteen steps apart: a byte a step in codes, which no code can beat, and two in a row.
-    let list: Vec<u32> = (1..=N).map(|i| 16 * i - 1).collect();
+    // A byte a step in codes, and no less in a row: codes come first.
+    assert!((8..=128).contains(&APART));
+    let list: Vec<u32> = (1..=N).map(|i| APART * i - 1).collect();
     assert_eq!(list.last(), Some(&LARGEST_STEP));
-    write_and_ask(&list, &image(0, LARGEST_STEP, N, &vec![15; MOST_STEPS]));
+    write_and_ask(&list, &image(0, LARGEST_STEP, N, &vec![APART as u8 - 1; MOST_STEPS]));
 }
 
 #[test]
@@ -74,7 +78,7 @@ fn one_step_more_is_refused_before_all_else() {
 #[test]
 fn buffers_of_the_longest_list_that_are_short_by_one() {
     let list: Vec<u32> = (0..N).collect();
-    let bytes = COUNTS_AND_ENTRY + MOST_STEPS / 8;
+    let bytes = COUNTS_SIZE + ENTRY_SIZE + MOST_STEPS / 8;
     let mut out = Lent::<u8>::empty(bytes);
     let kept = out.clone();
 
@@ -94,7 +98,7 @@ fn the_largest_step_is_written_and_the_next_is_not() {
     let (mut work, mut out) = ([1; 32], [1; 25]);
     let written = Proved.write(&[LARGEST_STEP], &mut work, &mut out);
     assert_eq!(written, Answer::accepted([1, 25, 0]));
-    assert_eq!(out.to_vec(), image(0, LARGEST_STEP, 1, &[0x87, 0xff, 0xff, 0x7f]));
+    assert_eq!(out.to_vec(), image(0, LARGEST_STEP, 1, &code_of(LARGEST_STEP)));
     assert_eq!(Proved.write(&[5, LARGEST_STEP + 1], &mut work, &mut out), refused(12, 1));
     assert_eq!(Proved.write(&[5, 5], &mut work, &mut out), refused(11, 1));
 }
@@ -145,9 +149,9 @@ fn a_result_of_one_step_more_is_refused_before_any_buffer() {
 fn counts_that_would_wrap() {
     let mut bytes = [0xff; 64];
     assert_eq!(Proved.check(&bytes), refused(1, 0));
-    // 13 times this, and 8, is 2^32 and 8 more: as many bytes as an image of no block has, by a sum that
-    // wraps.
-    for m in [u32::MAX / 13 + 1, u32::MAX / 13, 1 << 31] {
+    // The entries of the first of these have 2^32 bytes or a few more, which in 32 bits are none or a few.
+    const WRAPPING: u32 = u32::MAX / ENTRY_SIZE as u32 + 1;
+    for m in [WRAPPING, WRAPPING - 1, 1 << 31] {
         bytes[..4].copy_from_slice(&m.to_le_bytes());
         assert_eq!(Proved.check(&bytes), refused(1, 0));
         assert_eq!(Proved.check(&bytes[..8]), refused(1, 0));
@@ -159,8 +163,8 @@ fn counts_that_would_wrap() {
 
 #[test]
 fn the_clock_of_every_step() {
-    for step in 0..=100_000 {
-        let right = if step < 87_600 {
+    for step in 0..=STEPS_IN_A_YEAR + 10_000 {
+        let right = if step < STEPS_IN_A_YEAR {
             Answer::accepted([step / 240 + 1, step % 240 / 10, step % 10 * 6])
         } else {
             refused(18, 0)

@@ -2,6 +2,7 @@
 //! steps.
 
 use huttaralu::{both, either, plain, without, write, Image, ImageBuf, Kind, Reason, Refusal, Side};
+use huttaralu::{LARGEST_STEP, MOST_STEPS, STEPS_IN_A_YEAR};
 use huttaralu_tests::{cases, images, lists};
 use model::Operation;
 use proptest::prelude::*;
@@ -98,7 +99,7 @@ proptest! {
         ];
         for (operation, told) in pairs {
             let n = 4000;
-            let (mut steps, mut work, mut out) = (vec![0; n], vec![0; model::work_for(n)], vec![0; 4 * n + 21]);
+            let (mut steps, mut work, mut out) = (vec![0; n], vec![0; model::work_for(n)], vec![0; huttaralu::most_bytes(n)]);
             let right = model::pair(operation, &first, &second, &mut steps, &mut work, &mut out);
             let right = right.map(|(_, bytes)| out[..bytes as usize].to_vec());
             prop_assert_eq!(told.map(ImageBuf::into_bytes).map_err(numbers), right);
@@ -108,15 +109,17 @@ proptest! {
 
 #[test]
 fn a_list_that_is_too_long_is_refused_without_allocating_for_it() {
-    let list: Vec<u32> = (0..=huttaralu::MOST_STEPS as u32).collect();
+    let list: Vec<u32> = (0..=MOST_STEPS as u32).collect();
     assert_eq!(write(&list).unwrap_err().reason(), Reason::TooManySteps);
 }
 
 #[test]
 fn the_longest_list_fits_what_is_allocated() {
     // Four bytes a code is the most that a list of its length can have, and one row the most of any.
-    for gap in [1, 15, 16] {
-        let list: Vec<u32> = (0..huttaralu::MOST_STEPS as u32).map(|i| i * gap).collect();
+    let most = MOST_STEPS as u32;
+    let widest = (LARGEST_STEP + 1) / most;
+    for gap in [1, widest - 1, widest] {
+        let list: Vec<u32> = (0..most).map(|i| i * gap).collect();
         let image = write(&list).unwrap();
         assert!(image.bytes().len() <= huttaralu::most_bytes(list.len()));
         assert!(image.iter().eq(list));
@@ -124,6 +127,12 @@ fn the_longest_list_fits_what_is_allocated() {
     let list: Vec<u32> = (1..8).map(|i| i * 2_200_000).collect();
     let image = write(&list).unwrap();
     assert_eq!(image.bytes().len(), huttaralu::most_bytes(list.len()));
+}
+
+#[test]
+fn reasons_stand_in_the_order_of_their_numbers() {
+    assert_eq!(Reason::ALL[0].number(), 1);
+    assert!(Reason::ALL.is_sorted_by(|earlier, later| earlier.number() < later.number()));
 }
 
 #[test]
@@ -149,6 +158,6 @@ fn a_refusal_says_number_place_and_words() {
     assert_eq!(said(lent(64, 22)), "refusal 15 (23 bytes needed): output shorter than the image");
     let short = plain::read(image.as_ref(), &mut [0; 2]).unwrap_err();
     assert_eq!(said(short), "refusal 16 (3 steps needed): step buffer too short");
-    let clock = huttaralu::clock_of(87_600).unwrap_err();
-    assert_eq!(said(clock), "refusal 18 (place 0): step above 87,599 given to the clock");
+    let clock = huttaralu::clock_of(STEPS_IN_A_YEAR).unwrap_err();
+    assert_eq!(said(clock), "refusal 18 (place 0): step after the year given to the clock");
 }

@@ -1,4 +1,4 @@
-//! Years of tides, up to all 87,600 steps of one, against the model.
+//! Years of tides, up to every step of one, against the model.
 
 use huttaralu_tests::lent::Lent;
 use huttaralu_tests::library::{Answer, Library, Model, Proved};

@@ -17,14 +17,7 @@
 #![forbid(unsafe_code)]
 #![warn(missing_docs)]
 
-/// Steps of six minutes in a year of 365 days.
-pub const STEPS_IN_A_YEAR: u32 = 87_600;
-
-/// The largest step that a list may hold.
-pub const LARGEST_STEP: u32 = 16_777_215;
-
-/// The largest number of steps in a list.
-pub const MOST_STEPS: usize = 1_048_576;
+pub use limits::{LARGEST_STEP, MOST_STEPS, STEPS_IN_A_YEAR};
 
 const STEPS_IN_AN_HOUR: f64 = 10.0;
 const M2_HOURS: f64 = 12.420_601_2;
@@ -254,7 +247,8 @@ mod tests {
     #[test]
     fn density_is_kept() {
         let list = random(3, 0.001, MOST_STEPS);
-        assert!((15_000..18_500).contains(&list.len()), "{}", list.len());
+        let expected = f64::from(LARGEST_STEP) * 0.001;
+        assert!((list.len() as f64 / expected - 1.0).abs() < 0.1, "{}", list.len());
     }
 
     #[test]
