@@ -31,14 +31,14 @@ rankedOf p = record { refusal = refusalOf p; step = value p 0 }
 abbrev pub firstOf : Paper → First
 firstOf p = record { refusal = refusalOf p; found = value p 0; step = value p 1; rank = value p 2 }
 
--- the same, where no step is found
+-- the answer to a bound where no step is found
 abbrev pub unfound : Refusal → First
 unfound r = record { refusal = r; found = 0; step = 0; rank = 0 }
 
 abbrev pub movedOf : Paper → Moved
 movedOf p = record { refusal = refusalOf p; found = value p 0; step = value p 1; cursor = record { rank = value p 2 } }
 
--- the same, where no step is given
+-- the answer of a move where no step is given
 abbrev pub unmoved : Refusal → ℕ → Moved
 unmoved r k = record { refusal = r; found = 0; step = 0; cursor = record { rank = k } }
 

@@ -99,24 +99,6 @@ fn of_refusal(r: rules::Refusal) -> Refusal
     }
 }
 
-// The answer of a check or a reading back in its fields.
-pub fn of_checked(c: Checked) -> Counted
-    ensures { λ r. ⌜ r ≡ countedOf (read.paperOf c) ⌝ }
-{
-    match c {
-        Checked::Accepted { steps } => Counted {
-            refusal: none(),
-            steps,
-            bytes: 0,
-        },
-        Checked::Refused(r) => Counted {
-            refusal: of_refusal(r),
-            steps: 0,
-            bytes: 0,
-        },
-    }
-}
-
 // The answer of writing, or of a pair, in its fields.
 pub fn of_counted(c: write::Counted) -> Counted
     ensures { λ r. ⌜ r ≡ countedOf (write.paperOf c) ⌝ }
@@ -132,6 +114,16 @@ pub fn of_counted(c: write::Counted) -> Counted
             steps: 0,
             bytes: 0,
         },
+    }
+}
+
+// The answer of a check or a reading back in its fields: as that of writing, with no bytes.
+pub fn of_checked(c: Checked) -> Counted
+    ensures { λ r. ⌜ r ≡ countedOf (read.paperOf c) ⌝ }
+{
+    match c {
+        Checked::Accepted { steps } => of_counted(write::Counted::Accepted { steps, bytes: 0 }),
+        Checked::Refused(r) => of_counted(write::Counted::Refused(r)),
     }
 }
 
@@ -216,13 +208,13 @@ pub fn of_next(a: Next) -> Moved
     }
 }
 
-// The answer of `start` or `skip_to` in its fields.
+// The answer of `start` or `skip_to` in its fields: as that of `next` where it gives no step.
 pub fn of_placed(a: Placed) -> Moved
     ensures { λ r. ⌜ r ≡ movedOf (cursor.placedPaper a) ⌝ }
 {
     match a {
-        Placed::At(c) => stands(none(), c.rank),
-        Placed::Refused(r) => stands(of_refusal(r), 0),
+        Placed::At(c) => of_next(Next::End(c)),
+        Placed::Refused(r) => of_next(Next::Refused(r)),
     }
 }
 

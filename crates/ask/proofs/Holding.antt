@@ -20,37 +20,20 @@ use Rattle.image.specs.Entry.{entryPlace, payloadPlace, entriesAt, start, after
 use Rattle.image.specs.Verdict.{taken, directoryOf, blocksOf}
 use Rattle.image.proofs.Verdict.{length-payload, peel}
 use Rattle.image.specs.Taken.{stepsOf, Taken, entriesIn, payloadIn}
+use Rattle.image_directory.specs.declared.Question.{Question}
+use Rattle.image_directory.specs.declared.Question.the-variants.{Rank, Bound}
+use Rattle.image_directory.specs.declared.Spot.{Spot}
+use Rattle.image_directory.specs.declared.Spot.the-variants.{Block, Nowhere}
+use Rattle.image_directory.specs.Search.{passes, spotIn}
+use Rattle.image_directory.specs.Part.{partIn, Within}
+use Rattle.image_directory.proofs.Whole.{taken-open, taken-blocks}
 use Rattle.image_block.specs.Block.{stepsIn, Sound}
 use Rattle.image_block.proofs.Steps.{length-steps, below-within}
-use Rattle.ask.specs.declared.Spot.{Spot}
-use Rattle.ask.specs.declared.Spot.the-variants.{Block, Nowhere}
-use Rattle.ask.specs.Search.{partIn, Inside, spotIn, above, reaches}
 use Rattle.ask.proofs.Landing.{Landed, Outcome, lands, reached-start, reached-rank, reached-below, reached-length}
-
--- ---- an accepted image, taken apart
-
--- `m` is its number of blocks
-record Opened (s : List ℕ) (m : ℕ) : Type 0 where
-  size : length s ≡ payloadPlace m + length (drop (payloadPlace m) s)
-  few : length (drop (payloadPlace m) s) < 2 ^ 32
-  fine : directoryOf (length (drop (payloadPlace m) s)) start 0 (entriesAt m s (entryPlace 0)) ≡ Fine
-  blocks : blocksOf (drop (payloadPlace m) s) start 0 (entriesAt m s (entryPlace 0)) ≡ taken (stepsOf s)
-
-opened : (s : List ℕ) → Bytes s → Taken s → Opened s (numberAt s 0)
-opened s w t =
-    let g = peel s (stepsOf s) t in
-    let n : length (drop (payloadPlace (g .m)) s) ≡ g .p = length-payload s (g .m) (g .p) (g .size) in
-    subst (Opened s) (g .is-m)
-    (record {
-      size = omega (arith, g .size);
-      few = omega (arith, g .is-p, number-lt s (entryPlace (g .m)) w (omega (arith, g .size)));
-      fine = ap (λ (k : ℕ). directoryOf k start 0 (entriesAt (g .m) s (entryPlace 0))) n ∙ g .fine;
-      blocks = g .blocks;
-    })
 
 -- a block of an accepted image: its part, and its steps at their ranks
 pub record Holds (s : List ℕ) (b : Before) (e : Entry) : Type 0 where
-  pub inside : Inside s b e
+  pub inside : Within s b e
   pub sound : Sound b e (partIn s b e)
   pub order : b .upto ≤ e .upto
   pub few : e .upto ≤ mostSteps
@@ -72,21 +55,22 @@ pub record BoundIn (s : List ℕ) (x : ℕ) (b : Before) (e : Entry) : Type 0 wh
 module _ (s : List ℕ) (w : Bytes s) (t : Taken s) where
   -- the directory can be read
   pub directory-within : entryPlace (numberAt s 0) ≤ length s
-  directory-within = omega (arith, opened s w t .size)
+  directory-within = omega (arith, taken-open w t .size)
 
   -- a search from the first block on
-  outcome : (p : Entry → Bool) (q : Before → Type 0) → ((e : Entry) → p e ≡ false → q (afterEntry e)) → q start
-      → Outcome p q (payloadIn s) (stepsOf s) (spotIn p s)
-  outcome p q fails h =
-      let o = opened s w t in
-      lands p q fails (payloadIn s) (stepsOf s) (o .few) start 0 (entriesIn s) (stepsOf s) h (reached-start (stepsOf s)) (o .fine) (o .blocks)
+  outcome : (q : Question) (from : Before → Type 0) → ((e : Entry) → passes q e ≡ false → from (afterEntry e)) → from start
+      → Outcome q from (payloadIn s) (stepsOf s) (spotIn q s)
+  outcome q from fails h =
+      let o = taken-open w t .sound in
+      lands q from fails (payloadIn s) (stepsOf s) (o .few) start 0 (entriesIn s) (stepsOf s) h (reached-start (stepsOf s)) (o .fine)
+      (taken-blocks s t)
 
-  holding : {p : Entry → Bool} {q : Before → Type 0} {b : Before} {e : Entry} → Landed p q (payloadIn s) (stepsOf s) b e → Holds s b e
-  holding {p} {q} {b} {e} l =
+  holding : {q : Question} {from : Before → Type 0} {b : Before} {e : Entry} → Landed q from (payloadIn s) (stepsOf s) b e → Holds s b e
+  holding {q} {from} {b} {e} l =
       let us : List ℕ = stepsIn b e (partIn s b e) in
       let n : length us ≡ e .upto - b .upto = length-steps (l .sound) in
       record {
-        inside = record { order = omega (arith, l .clean); within = omega (arith, l .clean, opened s w t .size) };
+        inside = record { order = omega (arith, l .clean); within = omega (arith, l .clean, taken-open w t .size) };
         sound = l .sound;
         order = omega (arith, l .clean);
         few = l .clean .few;
@@ -101,28 +85,28 @@ module _ (s : List ℕ) (w : Bytes s) (t : Taken s) where
   -- ---- a rank
 
   module _ (k : ℕ) where
-    ranks : {r : Spot} → spotIn (above k) s ≡ r → Outcome (above k) (λ (b : Before). b .upto ≤ k) (payloadIn s) (stepsOf s) r
+    ranks : {r : Spot} → spotIn (Rank k) s ≡ r → Outcome (Rank k) (λ (b : Before). b .upto ≤ k) (payloadIn s) (stepsOf s) r
     ranks f =
-        subst (Outcome (above k) (λ (b : Before). b .upto ≤ k) (payloadIn s) (stepsOf s)) f
-        (outcome (above k) (λ (b : Before). b .upto ≤ k) (λ e h. ltb-false k (e .upto) h) (omega arith))
+        subst (Outcome (Rank k) (λ (b : Before). b .upto ≤ k) (payloadIn s) (stepsOf s)) f
+        (outcome (Rank k) (λ (b : Before). b .upto ≤ k) (λ e h. ltb-false k (e .upto) h) (omega arith))
 
-    pub rank-in : {b : Before} {e : Entry} → spotIn (above k) s ≡ Block b e → RankIn s k b e
+    pub rank-in : {b : Before} {e : Entry} → spotIn (Rank k) s ≡ Block b e → RankIn s k b e
     rank-in {b} {e} f =
         let l = ranks f in
-        record { holds = holding l; from = l .from; upto = ltb-true k (e .upto) (l .test) }
+        record { holds = holding l; from = l .since; upto = ltb-true k (e .upto) (l .test) }
 
-    pub rank-out : spotIn (above k) s ≡ Nowhere → length (stepsOf s) ≤ k
-    rank-out f = let l = ranks f in omega (arith, l .from, reached-length (l .reached))
+    pub rank-out : spotIn (Rank k) s ≡ Nowhere → length (stepsOf s) ≤ k
+    rank-out f = let l = ranks f in omega (arith, l .since, reached-length (l .reached))
 
   -- ---- a bound
 
   module _ (x : ℕ) where
-    bounds : {r : Spot} → spotIn (reaches x) s ≡ r → Outcome (reaches x) (λ (b : Before). b .next ≤ x) (payloadIn s) (stepsOf s) r
+    bounds : {r : Spot} → spotIn (Bound x) s ≡ r → Outcome (Bound x) (λ (b : Before). b .next ≤ x) (payloadIn s) (stepsOf s) r
     bounds f =
-        subst (Outcome (reaches x) (λ (b : Before). b .next ≤ x) (payloadIn s) (stepsOf s)) f
-        (outcome (reaches x) (λ (b : Before). b .next ≤ x) (λ e h. omega (arith, leb-false x (e .last) h)) (omega arith))
+        subst (Outcome (Bound x) (λ (b : Before). b .next ≤ x) (payloadIn s) (stepsOf s)) f
+        (outcome (Bound x) (λ (b : Before). b .next ≤ x) (λ e h. omega (arith, leb-false x (e .last) h)) (omega arith))
 
-    pub bound-in : {b : Before} {e : Entry} → spotIn (reaches x) s ≡ Block b e → BoundIn s x b e
+    pub bound-in : {b : Before} {e : Entry} → spotIn (Bound x) s ≡ Block b e → BoundIn s x b e
     bound-in {b} {e} f =
         let l = bounds f in
         let us : List ℕ = stepsIn b e (partIn s b e) in
@@ -131,13 +115,13 @@ module _ (s : List ℕ) (w : Bytes s) (t : Taken s) where
         record {
           holds = holding l;
           reach = h;
-          rank = reached-below (l .reached) x (l .from) ∙ ap (λ (j : ℕ). b .upto + j) (below-left us (l .others) x n);
+          rank = reached-below (l .reached) x (l .since) ∙ ap (λ (j : ℕ). b .upto + j) (below-left us (l .others) x n);
         }
 
-    pub bound-out : spotIn (reaches x) s ≡ Nowhere → below (stepsOf s) x ≡ length (stepsOf s)
+    pub bound-out : spotIn (Bound x) s ≡ Nowhere → below (stepsOf s) x ≡ length (stepsOf s)
     bound-out f =
         let l = bounds f in
-        omega (arith, reached-below (l .reached) x (l .from), below-nil x, reached-length (l .reached))
+        omega (arith, reached-below (l .reached) x (l .since), below-nil x, reached-length (l .reached))
 
 -- ---- what the block answers, read in its part, is the image's answer
 

@@ -12,7 +12,6 @@ use Rattle.lists.specs.Rising.{Rising, beyond}
 use Rattle.lists.specs.Parts.{part}
 use Rattle.lists.specs.Below.{below}
 use Rattle.lists.proofs.Rising.{beyond-append, rising-append}
-use Rattle.lists.proofs.Parts.{length-part}
 use Rattle.lists.proofs.Below.{below-append}
 use Rattle.image.specs.declared.Entry.{Entry}
 use Rattle.image.specs.declared.Before.{Before}
@@ -21,11 +20,12 @@ use Rattle.image.specs.Entry.{start, afterEntry}
 use Rattle.image.specs.Verdict.{taken, directoryOf, blocksOf}
 use Rattle.image.proofs.Directory.{Clean, directory-clean}
 use Rattle.image.proofs.Blocks.{taken-eq, split}
+use Rattle.image_directory.specs.declared.Question.{Question}
+use Rattle.image_directory.specs.declared.Spot.{Spot}
+use Rattle.image_directory.specs.declared.Spot.the-variants.{Block, Nowhere}
+use Rattle.image_directory.specs.Search.{passes, spotOf}
 use Rattle.image_block.specs.Block.{stepsIn, Sound}
-use Rattle.image_block.proofs.Steps.{steps-good, sound-good, length-steps, beyond-steps, rising-steps-in}
-use Rattle.ask.specs.declared.Spot.{Spot}
-use Rattle.ask.specs.declared.Spot.the-variants.{Block, Nowhere}
-use Rattle.ask.specs.Search.{spotOf}
+use Rattle.image_block.proofs.Steps.{part-size, steps-good, sound-good, length-steps, beyond-steps, rising-steps-in}
 
 -- ---- going along the blocks
 
@@ -74,51 +74,48 @@ module _ {xs : List ℕ} {b : Before} {ys : List ℕ} (r : Reached xs b ys) wher
   pub reached-length : length xs ≡ b .upto + length ys
   reached-length = omega (arith, ap length (r .both), length-append (r .front) ys, r .count)
 
--- ---- the first block whose entry passes a test `p`; `q` holds of what stands before the first block, and after each entry that fails
+-- ---- the first block that has the answer to a question; `from` holds of what stands before the first block, and after each entry that fails
 
 -- it is there, with the steps from it on
-pub record Landed (p : Entry → Bool) (q : Before → Type 0) (pay xs : List ℕ) (b : Before) (e : Entry) : Type 0 where
+pub record Landed (q : Question) (from : Before → Type 0) (pay xs : List ℕ) (b : Before) (e : Entry) : Type 0 where
   pub clean : Clean (length pay) b e
   pub sound : Sound b e (part pay (b .end) (e .end))
-  pub from : q b
-  pub test : p e ≡ true
+  pub since : from b
+  pub test : passes q e ≡ true
   pub others : List ℕ
   pub reached : Reached xs b (stepsIn b e (part pay (b .end) (e .end)) ++ others)
 
 -- or all were passed
-pub record Missed (q : Before → Type 0) (xs : List ℕ) : Type 0 where
+pub record Missed (from : Before → Type 0) (xs : List ℕ) : Type 0 where
   pub end : Before
-  pub from : q end
+  pub since : from end
   pub reached : Reached xs end []
 
-abbrev pub Outcome : (Entry → Bool) → (Before → Type 0) → List ℕ → List ℕ → Spot → Type 0
-Outcome p q pay xs (Block b e) = Landed p q pay xs b e
-Outcome p q pay xs Nowhere = Missed q xs
+abbrev pub Outcome : Question → (Before → Type 0) → List ℕ → List ℕ → Spot → Type 0
+Outcome q from pay xs (Block b e) = Landed q from pay xs b e
+Outcome q from pay xs Nowhere = Missed from xs
 
-module _ (p : Entry → Bool) (q : Before → Type 0) (fails : (e : Entry) → p e ≡ false → q (afterEntry e)) (pay xs : List ℕ)
+module _ (q : Question) (from : Before → Type 0) (fails : (e : Entry) → passes q e ≡ false → from (afterEntry e)) (pay xs : List ℕ)
     (few : length pay < 2 ^ 32) where
-  pub lands : (b : Before) (i : ℕ) (es : List Entry) (ys : List ℕ) → q b → Reached xs b ys → directoryOf (length pay) b i es ≡ Fine
+  pub lands : (b : Before) (i : ℕ) (es : List Entry) (ys : List ℕ) → from b → Reached xs b ys → directoryOf (length pay) b i es ≡ Fine
       → blocksOf pay b i es ≡ taken ys
-      → Outcome p q pay xs (spotOf p b es)
-  lands b i [] ys h r d t = record { end = b; from = h; reached = subst (Reached xs b) (sym (taken-eq t)) r }
+      → Outcome q from pay xs (spotOf q b es)
+  lands b i [] ys h r d t = record { end = b; since = h; reached = subst (Reached xs b) (sym (taken-eq t)) r }
   lands b i (e ∷ es) ys h r d t =
       let c = directory-clean (length pay) b i e es d in
       let sp = split pay b i e es ys t in
-      let small : length (part pay (b .end) (e .end)) < 2 ^ 32 =
-      omega (arith, c .0, length-part pay (b .end) (e .end) (omega (arith, c .0)) (c .0 .within))
-      in
-      let s = sound-good (sp .first) (c .0) small in
+      let s = sound-good (sp .first) (c .0) (part-size pay (c .0) few) in
       let both : stepsIn b e (part pay (b .end) (e .end)) ++ sp .others ≡ ys =
       ap (λ (l : List ℕ). l ++ sp .others) (steps-good (sp .first)) ∙ sp .both
       in
-      by (c .0) s (sp .others) both (p e) refl
+      by (c .0) s (sp .others) both (passes q e) refl
       (λ f. lands (afterEntry e) (i + 1) es (sp .others) (fails e f) (reached-past r s (omega (arith, c .0)) both) (c .1) (sp .more))
     where
       by : Clean (length pay) b e → Sound b e (part pay (b .end) (e .end)) → (zs : List ℕ)
           → stepsIn b e (part pay (b .end) (e .end)) ++ zs ≡ ys
-          → (v : Bool) → p e ≡ v
-          → (p e ≡ false → Outcome p q pay xs (spotOf p (afterEntry e) es))
-          → Outcome p q pay xs (pick v (Block b e) (spotOf p (afterEntry e) es))
+          → (v : Bool) → passes q e ≡ v
+          → (passes q e ≡ false → Outcome q from pay xs (spotOf q (afterEntry e) es))
+          → Outcome q from pay xs (pick v (Block b e) (spotOf q (afterEntry e) es))
       by c s zs both true f on =
-          record { clean = c; sound = s; from = h; test = f; others = zs; reached = subst (Reached xs b) (sym both) r }
+          record { clean = c; sound = s; since = h; test = f; others = zs; reached = subst (Reached xs b) (sym both) r }
       by c s zs both false f on = on f

@@ -3,7 +3,6 @@
 -- each question then answers.
 pub mod Decides
 pub mod Walks
-mod Seeking
 mod Landing
 mod Holding
 mod Answers

@@ -1,4 +1,3 @@
-pub mod Search
 pub mod Rank
 pub mod First
 pub mod Cursor

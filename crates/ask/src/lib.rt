@@ -4,18 +4,15 @@
 // block's part of the payload. A cursor is a rank and nothing else, so one rank of one image has one cursor.
 
 ghost use mathlib.Core.Path.{_≡_};
-ghost use Prim.Native.Nat.{_^_, _≤_, _<_};
+ghost use Prim.Native.Nat.{_^_, _<_};
 ghost use lib.ListN.{length, getD};
 ghost use Rattle.lists.specs.Below.{below};
-ghost use Rattle.rules.specs.Numbers.{numberAt};
-ghost use Rattle.image.specs.Entry.{entryPlace};
 ghost use Rattle.image.specs.Taken.{stepsOf, Taken};
-ghost use Rattle.ask.specs.Search.{partIn, Inside, spotIn, above, reaches};
 ghost use Rattle.ask.specs.Rank as rank;
 ghost use Rattle.ask.specs.First as first;
 ghost use Rattle.ask.specs.Cursor.{nextPaper, placedPaper, startPromise, nextPromise, skipPromise};
-use image::Before;
-use image::Entry;
+use image_directory::Question;
+use image_directory::Spot;
 use read::Checked;
 use rules::Refusal;
 
@@ -62,86 +59,15 @@ pub enum Placed {
     Refused(Refusal),
 }
 
-// Where the directory says that an answer is: a block with what stands before it, or none.
-enum Spot {
-    Block { before: Before, entry: Entry },
-    Nowhere,
-}
-
-// The first block whose upto is above the rank.
-fn find_rank(image: &[u8], k: usize) -> Spot
-    requires { ⌜ entryPlace (numberAt (now image) 0) ≤ length (now image) ⌝ }
-    ensures { λ r. ⌜ r ≡ spotIn (above k) (now (image .entry)) ⌝ }
-{
-    let m = rules::number_at(image, 0);
-    let mut b = Before {
-        next: 0,
-        upto: 0,
-        end: 0,
-    };
-    let mut i: usize = 0;
-    while i < m {
-        let e = image::entry_at(image, rules::NUMBER_SIZE + rules::ENTRY_SIZE * i);
-        if k < e.upto {
-            return Spot::Block {
-                before: b,
-                entry: e,
-            };
-        }
-        b = image::after(e);
-        i += 1;
-    }
-    Spot::Nowhere
-}
-
-// The first block whose last step reaches the bound.
-fn find_bound(image: &[u8], x: usize) -> Spot
-    requires { ⌜ entryPlace (numberAt (now image) 0) ≤ length (now image) ⌝ }
-    ensures { λ r. ⌜ r ≡ spotIn (reaches x) (now (image .entry)) ⌝ }
-{
-    let m = rules::number_at(image, 0);
-    let mut b = Before {
-        next: 0,
-        upto: 0,
-        end: 0,
-    };
-    let mut i: usize = 0;
-    while i < m {
-        let e = image::entry_at(image, rules::NUMBER_SIZE + rules::ENTRY_SIZE * i);
-        if x <= e.last {
-            return Spot::Block {
-                before: b,
-                entry: e,
-            };
-        }
-        b = image::after(e);
-        i += 1;
-    }
-    Spot::Nowhere
-}
-
-// A block's part of the payload.
-fn part_of<'a>(image: &'a [u8], b: Before, e: Entry) -> &'a [u8]
-    requires { ⌜ Inside (now image) b e ⌝ }
-    ensures { λ r. ⌜ now r ≡ partIn (now (image .entry)) b e ⌝ }
-{
-    let m = rules::number_at(image, 0);
-    let from = rules::NUMBER_SIZE + rules::ENTRY_SIZE * m + rules::NUMBER_SIZE;
-    let payload = &image[from..];
-    let start = b.end;
-    let end = e.end;
-    &payload[start..end]
-}
-
 // The step at a rank of an image that was accepted.
 fn step_at(image: &[u8], k: usize) -> usize
     requires { ⌜ Taken (now image) × (k < length (stepsOf (now image))) ⌝ }
     ensures { λ r. ⌜ (r ≡ getD (stepsOf (now (image .entry))) k 0) × (r < 2 ^ 32) ⌝ }
 {
-    let s = find_rank(image, k);
+    let s = image_directory::find(image, Question::Rank(k));
     match s {
         Spot::Block { before, entry } => {
-            let part = part_of(image, before, entry);
+            let part = image_directory::part(image, before, entry);
             image_block::step_in(part, before, entry, k - before.upto)
         }
         Spot::Nowhere => 0,
@@ -153,10 +79,10 @@ fn below_at(image: &[u8], n: usize, x: usize) -> usize
     requires { ⌜ Taken (now image) × (length (stepsOf (now image)) ≡ n) ⌝ }
     ensures { λ r. ⌜ r ≡ below (stepsOf (now (image .entry))) x ⌝ }
 {
-    let s = find_bound(image, x);
+    let s = image_directory::find(image, Question::Bound(x));
     match s {
         Spot::Block { before, entry } => {
-            let part = part_of(image, before, entry);
+            let part = image_directory::part(image, before, entry);
             before.upto + image_block::below_in(part, before, entry, x)
         }
         Spot::Nowhere => n,
@@ -168,10 +94,10 @@ fn first_in(image: &[u8], x: usize) -> First
     requires { ⌜ Taken (now image) ⌝ }
     ensures { λ r. ⌜ first.paperOf r ≡ first.atRank (stepsOf (now (image .entry))) (below (stepsOf (now (image .entry))) x) ⌝ }
 {
-    let s = find_bound(image, x);
+    let s = image_directory::find(image, Question::Bound(x));
     match s {
         Spot::Block { before, entry } => {
-            let part = part_of(image, before, entry);
+            let part = image_directory::part(image, before, entry);
             let f = image_block::first_in(part, before, entry, x);
             let step = f.step as u32;
             let rank = (before.upto + f.index) as u32;

@@ -9,8 +9,8 @@ use Rattle.rules.specs.Paper.{accepting}
 use Rattle.rules.proofs.Paper.{paper-apart, paper-values}
 use Rattle.image.specs.Verdict.{Verdict, taken, refused, verdict}
 use Rattle.image.specs.Taken.{Takes}
+use Rattle.image_directory.proofs.Ahead.{takes-list}
 use Rattle.read.proofs.Answers.{Yes}
-use Rattle.read.proofs.Ahead.{takes-list}
 use Rattle.blocks_lines.specs.declared.Contents.{Contents}
 use Rattle.blocks_lines.specs.declared.Contents.the-variants.{Holds}
 use Rattle.blocks_lines.specs.Listing.{values, paperOf, contentsPaper, contentsPromise}

@@ -1,6 +1,6 @@
 -- What the block lister says of an image: a first line, and a line for each block.
 use mathlib.Core.List.{List, [], _∷_}
-use Prim.Native.Nat.{ℕ, _-_, _<_}
+use Prim.Native.Nat.{ℕ, _-_}
 use lib.ListN.{length, getD}
 use Rattle.lists.specs.Parts.{part}
 use Rattle.rules.specs.Numbers.{numberAt}
@@ -8,10 +8,9 @@ use Rattle.rules.specs.Paper.{Paper, accepting, refusing}
 use Rattle.image.specs.declared.Before.{Before}
 use Rattle.image.specs.declared.Entry.{Entry}
 use Rattle.image.specs.Entry.{entryPlace, entryAt, beforeAt}
-use Rattle.image.specs.Block.{Found, blockOf}
+use Rattle.image.specs.Block.{blockOf}
 use Rattle.image.specs.Verdict.{Verdict, taken, refused, verdict}
 use Rattle.image.specs.Taken.{stepsFound, payloadIn}
-use Rattle.read.specs.Inside.{Stands}
 use Rattle.blocks_lines.specs.declared.Contents.{Contents}
 use Rattle.blocks_lines.specs.declared.Contents.the-variants.{Holds, Refused}
 use Rattle.blocks_lines.specs.declared.Line.{Line}
@@ -50,8 +49,3 @@ lineIn i b e pay =
 -- the line of block i of an image
 unfoldable pub lineAt : List ℕ → ℕ → Line
 lineAt s i = lineIn i (beforeAt s i) (entryOf s i) (payloadIn s)
-
--- a block that was checked and has a step
-pub record Some (f : Found) : Type 0 where
-  pub good : Stands f
-  pub some : 0 < length (stepsFound f)

@@ -14,6 +14,8 @@ use Rattle.image.specs.declared.Entry.{Entry}
 use Rattle.image.specs.declared.Before.{Before}
 use Rattle.image.specs.declared.Fault.{Fault}
 use Rattle.image.specs.declared.Fault.the-variants.{Fine, At}
+use Rattle.image.specs.declared.Opening.{Opening}
+use Rattle.image.specs.declared.Opening.the-variants.{Opened, Refused}
 use Rattle.image.specs.Entry.{entryPlace, payloadPlace, entriesAt, start, afterEntry}
 use Rattle.image.specs.Block.{Found, steps, wrong, blockOf}
 
@@ -76,3 +78,27 @@ verdict s =
     pick (ltb (length s) numberSize) (refused (refusal tooFewBytes 0))
     (pick (ltb (length s) (payloadPlace (numberAt s 0))) (refused (refusal tooFewBytes 0))
     (counted s (numberAt s 0) (numberAt s (entryPlace (numberAt s 0)))))
+
+-- ---- the first half of it, 1 to 6, for who does not look at every block
+
+abbrev pub onEntries : ℕ → Fault → Opening
+onEntries m Fine = Opened m
+onEntries m (At r) = Refused r
+
+abbrev pub openingFor : List ℕ → ℕ → ℕ → Opening
+openingFor s m p =
+    pick (ltb (length s) (payloadPlace m + p)) (Refused (refusal tooFewBytes 0))
+    (pick (ltb (payloadPlace m + p) (length s)) (Refused (refusal bytesLeftOver 0))
+    (onEntries m (directoryOf (length (drop (payloadPlace m) s)) start 0 (entriesAt m s (entryPlace 0)))))
+
+-- the number of blocks, or the first refusal of the counts and the directory
+unfoldable pub openingOf : List ℕ → Opening
+openingOf s =
+    pick (ltb (length s) numberSize) (Refused (refusal tooFewBytes 0))
+    (pick (ltb (length s) (payloadPlace (numberAt s 0))) (Refused (refusal tooFewBytes 0))
+    (openingFor s (numberAt s 0) (numberAt s (entryPlace (numberAt s 0)))))
+
+-- what follows from it for the verdict, where the blocks by themselves have the verdict `v`
+abbrev pub onOpening : Opening → Verdict → Verdict
+onOpening (Opened m) v = v
+onOpening (Refused r) v = refused r

@@ -5,7 +5,7 @@ ghost use mathlib.Core.Path.{_≡_};
 ghost use Prim.Native.Nat.{_+_, _^_, _≤_, _<_};
 ghost use lib.ListN.{length};
 ghost use Rattle.rules.specs.Sizes.{entrySize};
-ghost use Rattle.image.specs.Entry.{entryAt, afterEntry, Narrow};
+ghost use Rattle.image.specs.Entry.{entryAt, start, afterEntry, Narrow};
 use rules::Refusal;
 
 // One record of the directory.
@@ -29,6 +29,12 @@ pub enum Fault {
     At(Refusal),
 }
 
+// What the counts and the directory of an image say: how many blocks there are, or the first refusal, 1 to 6.
+pub enum Opening {
+    Opened { blocks: usize },
+    Refused(Refusal),
+}
+
 // The entry at a place.
 pub fn entry_at(s: &[u8], at: usize) -> Entry
     requires { ⌜ at + entrySize ≤ length (now s) ⌝ }
@@ -39,6 +45,17 @@ pub fn entry_at(s: &[u8], at: usize) -> Entry
         last: rules::number_at(s, at + 1),
         upto: rules::number_at(s, at + 5),
         end: rules::number_at(s, at + 9),
+    }
+}
+
+// What stands before the first block.
+pub fn start() -> Before
+    ensures { λ r. ⌜ r ≡ start ⌝ }
+{
+    Before {
+        next: 0,
+        upto: 0,
+        end: 0,
     }
 }
 

@@ -8,8 +8,10 @@ use native.Mathlib.Omega.{arith}
 use native.Mathlib.Decide.{ℕ-discrete}
 use lib.ListN.{length, getD}
 use Rattle.lists.specs.Rising.{Rising, beyond}
+use Rattle.lists.specs.Parts.{part}
 use Rattle.lists.specs.Below.{below}
 use Rattle.lists.proofs.Choice.{by-lt}
+use Rattle.lists.proofs.Parts.{length-part}
 use Rattle.lists.proofs.Rising.{rising-getD-below}
 use Rattle.lists.proofs.Below.{below-none, below-lt}
 use Rattle.rules.specs.Limits.Laws.{largest-coded}
@@ -25,18 +27,26 @@ use Rattle.image.proofs.Directory.{Clean}
 use Rattle.image.proofs.Found.{part-codes, part-row, codes-found, row-found}
 use Rattle.image.proofs.Blocks.{Good, block-good}
 use Rattle.image.specs.Taken.{stepsFound}
-use Rattle.image_block.specs.Block.{stepsIn, Sound, FirstIn}
+use Rattle.image_block.specs.Block.{stepsIn, Fitting, Sound, FirstIn}
 
--- ---- a block that stands for its steps
+-- ---- a block whose entry has no fault
+
+pub fitting : {p : ℕ} {b : Before} {e : Entry} {part : List ℕ} → Clean p b e → length part < 2 ^ 32 → Fitting b e part
+fitting c h = record { next = c .last; last = c .small; upto = omega (arith, c .upto); size = h }
+
+-- its part is one of the payload
+pub part-size : (pay : List ℕ) {b : Before} {e : Entry} → Clean (length pay) b e → length pay < 2 ^ 32 → length (part pay (b .end) (e .end)) < 2 ^ 32
+part-size pay {b} {e} c h = omega (arith, c, length-part pay (b .end) (e .end) (omega (arith, c .end)) (c .within))
+
+-- ---- and that stands for its steps
 
 module _ {b : Before} {e : Entry} {part : List ℕ} (g : Good b e part) where
   pub steps-good : stepsIn b e part ≡ g .list
   steps-good = ap stepsFound (g .is)
 
-  -- and whose entry has no fault
   pub sound-good : {p : ℕ} → Clean p b e → length part < 2 ^ 32 → Sound b e part
   sound-good c h =
-      record { good = g .is ∙ ap (λ (l : List ℕ). steps l) (sym steps-good); next = c .last; last = c .small; size = h }
+      record { fits = fitting c h; good = g .is ∙ ap (λ (l : List ℕ). steps l) (sym steps-good) }
 
 module _ {b : Before} {e : Entry} {part : List ℕ} (s : Sound b e part) where
   good : Good b e part
@@ -56,7 +66,7 @@ module _ {b : Before} {e : Entry} {part : List ℕ} (s : Sound b e part) where
         let l : listOf (stepsFrom (b .next) part 0) ≡ good .list = ap listOf codes-list in
         record {
           whole = codes-list ∙ ap (λ (r : List ℕ). all r) (sym l);
-          small = omega (arith, ap (beyond (b .next)) l, good .last, s .last, largest-coded);
+          small = omega (arith, ap (beyond (b .next)) l, good .last, s .fits .last, largest-coded);
         }
 
   -- ---- a row
@@ -70,10 +80,14 @@ module _ {b : Before} {e : Entry} {part : List ℕ} (s : Sound b e part) where
 
     -- it goes as far as the last step, and not much farther
     pub row-reach : e .last < b .next + byteBits * length part
-    row-reach = omega (arith, row-list .0, s .next)
+    row-reach = omega (arith, row-list .0, s .fits .next)
+
+    -- it ends within the byte of its last step
+    pub row-ends : b .next + byteBits * length part ≤ e .last + byteBits
+    row-ends = omega (arith, row-list .0, s .fits .next)
 
     pub row-short : b .next + byteBits * length part ≤ 2 ^ 40
-    row-short = omega (arith, row-list .0, s .next, s .last, largest-coded)
+    row-short = omega (arith, row-list .0, s .fits .next, s .fits .last, largest-coded)
 
   -- ---- of either kind
 
@@ -101,7 +115,7 @@ module _ {b : Before} {e : Entry} {part : List ℕ} (s : Sound b e part) where
   -- and one that the last step reaches
   pub below-within : (x : ℕ) → x ≤ e .last → below (stepsIn b e part) x < e .upto - b .upto
   below-within x h =
-      by-lt x (b .next) (λ g. omega (arith, below-first x (omega arith), some (b .next) (omega arith) (s .next)))
+      by-lt x (b .next) (λ g. omega (arith, below-first x (omega arith), some (b .next) (omega arith) (s .fits .next)))
       (λ g. some x g h)
     where
       some : (y : ℕ) → b .next ≤ y → y ≤ e .last → below (stepsIn b e part) y < e .upto - b .upto

@@ -1,4 +1,4 @@
--- The loops of `blocks` and `fill`, turn by turn: the answer goes on from each entry's upto, and the steps of each block are the next that
+-- The loops of `blocks` and `put_blocks`, turn by turn: the answer goes on from each entry's upto, and the steps of each block are the next that
 -- are stored.
 -- Assumes nothing.
 use mathlib.Core.Path.{_≡_, refl, sym, ap, _∙_}
@@ -8,37 +8,24 @@ use native.Mathlib.Omega.{arith}
 use lib.ListN.{length, length-append}
 use lib.Seq.{sets}
 use Rattle.lists.specs.Parts.{part}
+use Rattle.lists.specs.Stores.{Puts}
 use Rattle.lists.proofs.Stores.{Storing, storing-start, storing-run, storing-end}
 use Rattle.rules.specs.Limits.Laws.{most-counted}
 use Rattle.rules.specs.Refusals.{refusal}
 use Rattle.image.specs.declared.Entry.{Entry}
 use Rattle.image.specs.declared.Before.{Before}
 use Rattle.image.specs.Entry.{entryPlace, entryAt, entriesAt, start, afterEntry}
-use Rattle.image.specs.Block.{Found, steps, wrong, blockOf}
+use Rattle.image.specs.Block.{blockOf}
 use Rattle.image.specs.Verdict.{Verdict, taken, refused, prepend, blocksOf}
-use Rattle.image.proofs.Blocks.{Good, block-good, block-wrong, blocks-turn, blocks-halt, blocks-end}
-use Rattle.image.specs.Taken.{stepsFound, listIn, Takes}
+use Rattle.image.proofs.Blocks.{blocks-turn, blocks-halt, blocks-end}
+use Rattle.image.specs.Taken.{listIn, Takes}
+use Rattle.image_directory.specs.Sound as directory
+use Rattle.image_directory.proofs.Ahead.{left, left-start, Ahead, ahead-start, ahead-clean, ahead-next, takes-list, split-here}
+use Rattle.image_block.specs.Block.{stepsIn, numberOf, Sound}
+use Rattle.image_block.proofs.Numbers.{number-good, number-wrong}
+use Rattle.image_block.proofs.Steps.{part-size, steps-good, sound-good}
 use Rattle.read.specs.declared.Checked.the-variants.{Accepted, Refused}
-use Rattle.read.specs.Inside.{numberOf, answerOf, Stands, Filling, Sound, Ready}
-use Rattle.read.proofs.ByKind.{stands-steps}
-use Rattle.read.proofs.Ahead.{left, left-start, Ahead, ahead-start, ahead-clean, ahead-next, takes-list, split-here}
-
--- ---- a block by its number
-
-module _ (b : Before) (e : Entry) (part : List ℕ) (n : ℕ) (is : n ≡ numberOf (blockOf b e part)) where
-  number-good : n ≡ 0 → Good b e part
-  number-good z = by (blockOf b e part) refl
-    where
-      by : (f : Found) → blockOf b e part ≡ f → Good b e part
-      by (steps xs) q = block-good b e part xs q
-      by (wrong k) q = absurd (omega (arith, block-wrong b e part k q, is ∙ ap numberOf q))
-
-  number-wrong : (n ≡ 0 → ⊥) → blockOf b e part ≡ wrong n
-  number-wrong z = by (blockOf b e part) refl
-    where
-      by : (f : Found) → blockOf b e part ≡ f → blockOf b e part ≡ wrong n
-      by (steps xs) q = absurd (z (is ∙ ap numberOf q))
-      by (wrong k) q = q ∙ ap (λ (x : ℕ). wrong x) (sym (is ∙ ap numberOf q))
+use Rattle.read.specs.Inside.{answerOf, Ready}
 
 -- ---- checking: the answer is that on the blocks from `i` on, counted on from the upto before
 
@@ -47,7 +34,7 @@ pub record Checking (s pay : List ℕ) (m : ℕ) (b : Before) (i : ℕ) : Type 0
   pub fits : b .upto < 2 ^ 32
   pub answer : answerOf (b .upto) (blocksOf pay b i (left s m i)) ≡ answerOf 0 (blocksOf pay start 0 (entriesAt m s (entryPlace 0)))
 
-pub checking-start : (s pay : List ℕ) (m : ℕ) → Sound s pay m → Checking s pay m start 0
+pub checking-start : (s pay : List ℕ) (m : ℕ) → directory.Sound s pay m → Checking s pay m start 0
 checking-start s pay m d =
     record {
       ahead = ahead-start s pay m d;
@@ -87,7 +74,7 @@ module _ {s pay : List ℕ} {m : ℕ} {b : Before} {i : ℕ} (c : Checking s pay
       let q : b .upto ≡ b .upto + 0 = omega arith in
       ap (λ (k : ℕ). Accepted k) q ∙ sym (ap (answerOf (b .upto)) (blocks-end s pay m b i (omega (arith, c .ahead .within)))) ∙ c .answer
 
--- ---- filling: the steps of the blocks before `i` are stored, and those from there on are to go to `p`
+-- ---- storing: the steps of the blocks before `i` are stored, and those from there on are to go to `p`
 
 pub record Putting (s pay : List ℕ) (m : ℕ) (out₀ out : List ℕ) (b : Before) (i p : ℕ) : Type 0 where
   pub ahead : Ahead s pay m b i
@@ -104,44 +91,44 @@ putting-start s pay m out r =
     }
 
 -- a block and those after it, where all are taken
-record Halves (f : Found) (whole rest : Verdict) : Type 0 where
-  good : Stands f
+record Halves (b : Before) (e : Entry) (part : List ℕ) (whole rest : Verdict) : Type 0 where
+  sound : Sound b e part
   takes : Takes rest
-  both : listIn whole ≡ stepsFound f ++ listIn rest
+  both : listIn whole ≡ stepsIn b e part ++ listIn rest
 
 module _ {s pay : List ℕ} {m : ℕ} {out₀ out : List ℕ} {b : Before} {i p : ℕ} (c : Putting s pay m out₀ out b i p) where
-  module _ (e : Entry) (here : e ≡ entryAt s (entryPlace i)) (h : i < m) where
-    halves : Halves (blockOf b e (part pay (b .end) (e .end))) (blocksOf pay b i (left s m i))
-        (blocksOf pay (afterEntry e) (i + 1) (left s m (i + 1)))
+  module _ (e : Entry) (here : e ≡ entryAt s (entryPlace i)) (h : i < m) (few : length pay < 2 ^ 32) where
+    halves : Halves b e (part pay (b .end) (e .end)) (blocksOf pay b i (left s m i)) (blocksOf pay (afterEntry e) (i + 1) (left s m (i + 1)))
     halves =
-        let f = blockOf b e (part pay (b .end) (e .end)) in
+        let k = ahead-clean (c .ahead) e here h in
         let x = split-here s pay m b i e here h (c .takes) in
-        let on : stepsFound f ≡ x .first .list = ap stepsFound (x .first .is) in
+        let on : stepsIn b e (part pay (b .end) (e .end)) ≡ x .first .list = steps-good (x .first) in
         let after : listIn (blocksOf pay (afterEntry e) (i + 1) (left s m (i + 1))) ≡ x .others = ap listIn (x .more) in
         record {
-          good = stands-steps (x .first .is);
+          sound = sound-good (x .first) k (part-size pay k few);
           takes = takes-list (x .more);
           both = sym (x .both) ∙ rw (on, after);
         }
 
-    pub putting-room : Filling (blockOf b e (part pay (b .end) (e .end))) p (length out)
+    pub putting-sound : Sound b e (part pay (b .end) (e .end))
+    putting-sound = halves .sound
+
+    pub putting-room : p + length (stepsIn b e (part pay (b .end) (e .end))) ≤ length out
     putting-room =
         let t = halves in
-        let f = blockOf b e (part pay (b .end) (e .end)) in
+        let us = stepsIn b e (part pay (b .end) (e .end)) in
         let rest = listIn (blocksOf pay (afterEntry e) (i + 1) (left s m (i + 1))) in
-        record { good = t .good; room = omega (arith, c .stores .room, ap length (t .both), length-append (stepsFound f) rest) }
+        omega (arith, c .stores .room, ap length (t .both), length-append us rest)
 
-    pub putting-next : {out′ : List ℕ} {p′ : ℕ} → p′ ≡ p + length (stepsFound (blockOf b e (part pay (b .end) (e .end))))
-        → out′ ≡ sets out p (stepsFound (blockOf b e (part pay (b .end) (e .end))))
+    pub putting-next : {out′ : List ℕ} {p′ : ℕ} → Puts out p (stepsIn b e (part pay (b .end) (e .end))) out′ p′
         → Putting s pay m out₀ out′ (afterEntry e) (i + 1) p′
-    putting-next ep eo =
+    putting-next w =
         let t = halves in
-        let f = blockOf b e (part pay (b .end) (e .end)) in
         let rest = listIn (blocksOf pay (afterEntry e) (i + 1) (left s m (i + 1))) in
         record {
           ahead = ahead-next (c .ahead) e here h;
           takes = t .takes;
-          stores = storing-run (c .stores) (stepsFound f) rest (t .both) ep eo;
+          stores = storing-run (c .stores) (stepsIn b e (part pay (b .end) (e .end))) rest (t .both) (w .place) (w .stores);
         }
 
   pub putting-end : m ≤ i → out ≡ sets out₀ 0 (listIn (blocksOf pay start 0 (entriesAt m s (entryPlace 0))))

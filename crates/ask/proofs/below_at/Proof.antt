@@ -15,21 +15,21 @@ bytes c i = omega (arith, c .shared-slice-known .given i)
 lands : (c : tie.After-s) → BoundIn (c .before .before .before .before .args .image .now) (c .before .before .before .before .args .x) (c .s .given .0 .0) (c .s .given .0 .1 .0)
 lands c =
     let k = c .before .before .before in
-    bound-in (k .before .args .image .now) (bytes k) (k .before .pre .0) (k .before .args .x) (sym (c .before .before .find-bound .ensures) ∙ c .s .given .1)
+    bound-in (k .before .args .image .now) (bytes k) (k .before .pre .0) (k .before .args .x) (sym (c .before .before .find .ensures) ∙ c .s .given .1)
 
-find-bound-requires : tie.Need-find-bound-requires
-find-bound-requires c κs = directory-within (c .before .args .image .now) (bytes c) (c .before .pre .0)
+find-requires : tie.Need-find-requires
+find-requires c κs = directory-within (c .before .args .image .now) (bytes c) (c .before .pre .0)
 
 enum-known-s : tie.Need-enum-known-s
 enum-known-s c = search needs
 
-part-of-requires : tie.Need-part-of-requires
-part-of-requires c κs = lands (c .before) .holds .inside
+part-requires : tie.Need-part-requires
+part-requires c κs = lands (c .before) .holds .inside
 
 below-in-requires : tie.Need-below-in-requires
 below-in-requires c κs =
     let l = lands (c .before .before) in
-    (held-sound (c .part-of .ensures) (l .holds), l .reach)
+    (held-sound (c .part .ensures) (l .holds), l .reach)
 
 add-result : tie.Need-add-result
 add-result c = search needs
@@ -38,22 +38,22 @@ enum-told : tie.Need-enum-told
 enum-told c = search needs
 
 returns : tie.Need-returns
-returns c = bound-rank (c .before .before .part-of .ensures) (lands (c .before .before .before .before)) (c .before .below-in .ensures .0)
+returns c = bound-rank (c .before .before .part .ensures) (lands (c .before .before .before .before)) (c .before .below-in .ensures .0)
 
 returns-2 : tie.Need-returns-2
 returns-2 c =
     let k = c .before .before .before in
     sym
-    (bound-out (k .before .args .image .now) (bytes k) (k .before .pre .0) (k .before .args .x) (sym (c .before .before .find-bound .ensures) ∙ c .enum-told .given .1)
+    (bound-out (k .before .args .image .now) (bytes k) (k .before .pre .0) (k .before .args .x) (sym (c .before .before .find .ensures) ∙ c .enum-told .given .1)
     ∙ k .before .pre .1)
 
 pub below-at-spec : {M : Type 1} → statement M
 below-at-spec =
     tie.close
     (tie.spec
-    find-bound-requires
+    find-requires
     enum-known-s
-    part-of-requires
+    part-requires
     below-in-requires
     add-result
     enum-told

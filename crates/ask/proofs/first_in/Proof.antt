@@ -18,24 +18,24 @@ bytes c i = omega (arith, c .shared-slice-known .given i)
 lands : (c : tie.After-s) → BoundIn (c .before .before .before .before .args .image .now) (c .before .before .before .before .args .x) (c .s .given .0 .0) (c .s .given .0 .1 .0)
 lands c =
     let k = c .before .before .before in
-    bound-in (k .before .args .image .now) (bytes k) (k .before .pre) (k .before .args .x) (sym (c .before .before .find-bound .ensures) ∙ c .s .given .1)
+    bound-in (k .before .args .image .now) (bytes k) (k .before .pre) (k .before .args .x) (sym (c .before .before .find .ensures) ∙ c .s .given .1)
 
-find-bound-requires : tie.Need-find-bound-requires
-find-bound-requires c κs = directory-within (c .before .args .image .now) (bytes c) (c .before .pre)
+find-requires : tie.Need-find-requires
+find-requires c κs = directory-within (c .before .args .image .now) (bytes c) (c .before .pre)
 
 enum-known-s : tie.Need-enum-known-s
 enum-known-s c = search needs
 
-part-of-requires : tie.Need-part-of-requires
-part-of-requires c κs = lands (c .before) .holds .inside
+part-requires : tie.Need-part-requires
+part-requires c κs = lands (c .before) .holds .inside
 
 first-in-requires : tie.Need-first-in-requires
 first-in-requires c κs =
     let l = lands (c .before .before) in
-    (held-sound (c .part-of .ensures) (l .holds), l .reach)
+    (held-sound (c .part .ensures) (l .holds), l .reach)
 
 cast-step : tie.Need-cast-step
-cast-step c = omega (arith, c .before .first-in .ensures .small, lands (c .before .before .before .before) .holds .sound .last, largest-coded)
+cast-step c = omega (arith, c .before .first-in .ensures .small, lands (c .before .before .before .before) .holds .sound .fits .last, largest-coded)
 
 add-rank : tie.Need-add-rank
 add-rank c = search needs
@@ -51,7 +51,7 @@ enum-told c = search needs
 returns : tie.Need-returns
 returns c =
     let l = lands (c .before .before .before .before .before .before) in
-    let here = c .before .before .before .before .part-of .ensures in
+    let here = c .before .before .before .before .part .ensures in
     let f = c .before .before .before .first-in .ensures in
     first-found _ _ (bound-rank here l (f .which)) (omega (arith, f .within, l .holds .order, l .holds .within)) (held-step here (l .holds) (f .within) (f .is))
 
@@ -59,15 +59,15 @@ returns-2 : tie.Need-returns-2
 returns-2 c =
     let k = c .before .before .before in
     first-nothing (stepsOf (k .before .args .image .now)) (k .before .args .x)
-    (bound-out (k .before .args .image .now) (bytes k) (k .before .pre) (k .before .args .x) (sym (c .before .before .find-bound .ensures) ∙ c .enum-told .given .1))
+    (bound-out (k .before .args .image .now) (bytes k) (k .before .pre) (k .before .args .x) (sym (c .before .before .find .ensures) ∙ c .enum-told .given .1))
 
 pub first-in-spec : {M : Type 1} → statement M
 first-in-spec =
     tie.close
     (tie.spec
-    find-bound-requires
+    find-requires
     enum-known-s
-    part-of-requires
+    part-requires
     first-in-requires
     cast-step
     add-rank

@@ -15,16 +15,16 @@ bytes c i = omega (arith, c .shared-slice-known .given i)
 lands : (c : tie.After-s) → RankIn (c .before .before .before .before .args .image .now) (c .before .before .before .before .args .k) (c .s .given .0 .0) (c .s .given .0 .1 .0)
 lands c =
     let k = c .before .before .before in
-    rank-in (k .before .args .image .now) (bytes k) (k .before .pre .0) (k .before .args .k) (sym (c .before .before .find-rank .ensures) ∙ c .s .given .1)
+    rank-in (k .before .args .image .now) (bytes k) (k .before .pre .0) (k .before .args .k) (sym (c .before .before .find .ensures) ∙ c .s .given .1)
 
-find-rank-requires : tie.Need-find-rank-requires
-find-rank-requires c κs = directory-within (c .before .args .image .now) (bytes c) (c .before .pre .0)
+find-requires : tie.Need-find-requires
+find-requires c κs = directory-within (c .before .args .image .now) (bytes c) (c .before .pre .0)
 
 enum-known-s : tie.Need-enum-known-s
 enum-known-s c = search needs
 
-part-of-requires : tie.Need-part-of-requires
-part-of-requires c κs = lands (c .before) .holds .inside
+part-requires : tie.Need-part-requires
+part-requires c κs = lands (c .before) .holds .inside
 
 sub-step-in : tie.Need-sub-step-in
 sub-step-in c = lands (c .before .before .before) .from
@@ -32,7 +32,7 @@ sub-step-in c = lands (c .before .before .before) .from
 step-in-requires : tie.Need-step-in-requires
 step-in-requires c κs =
     let l = lands (c .before .before .before) in
-    (held-sound (c .before .part-of .ensures) (l .holds), omega (arith, l .from, l .upto))
+    (held-sound (c .before .part .ensures) (l .holds), omega (arith, l .from, l .upto))
 
 enum-told : tie.Need-enum-told
 enum-told c = search needs
@@ -40,22 +40,22 @@ enum-told c = search needs
 returns : tie.Need-returns
 returns c =
     let l = lands (c .before .before .before .before) in
-    (rank-step (c .before .before .part-of .ensures) l (c .step-in .ensures .0), omega (arith, c .step-in .ensures .1, l .holds .sound .last, largest-coded))
+    (rank-step (c .before .before .part .ensures) l (c .step-in .ensures .0), omega (arith, c .step-in .ensures .1, l .holds .sound .fits .last, largest-coded))
 
 returns-2 : tie.Need-returns-2
 returns-2 c =
     let k = c .before .before .before in
     absurd
     (omega
-    (arith, rank-out (k .before .args .image .now) (bytes k) (k .before .pre .0) (k .before .args .k) (sym (c .before .before .find-rank .ensures) ∙ c .enum-told .given .1), k .before .pre .1))
+    (arith, rank-out (k .before .args .image .now) (bytes k) (k .before .pre .0) (k .before .args .k) (sym (c .before .before .find .ensures) ∙ c .enum-told .given .1), k .before .pre .1))
 
 pub step-at-spec : {M : Type 1} → statement M
 step-at-spec =
     tie.close
     (tie.spec
-    find-rank-requires
+    find-requires
     enum-known-s
-    part-of-requires
+    part-requires
     sub-step-in
     step-in-requires
     enum-told

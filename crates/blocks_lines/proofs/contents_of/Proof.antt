@@ -1,8 +1,10 @@
 -- `blocks_lines::contents_of` meets its contract, by what the check says. Assumes nothing.
 use mathlib.Core.Path.{sym, ap}
+use native.Mathlib.Omega.{arith}
 use borrow.Author.Needs.{needs}
+use Rattle.image.proofs.Taken.{taken-is}
+use Rattle.image_directory.proofs.Whole.{payload-within}
 use Rattle.read.proofs.Answers.{Yes, answer-yes, answer-no}
-use Rattle.read.proofs.Whole.{number-here}
 use Rattle.blocks_lines.specs.Listing.{contentsPaper}
 use Rattle.blocks_lines.proofs.FirstLine.{contents-yes}
 use Rattle.blocks_lines.proofs.contents_of.Statement.{statement}
@@ -22,7 +24,10 @@ enum-known-c-2 : tie.Need-enum-known-c-2
 enum-known-c-2 c = search needs
 
 number-at-requires : tie.Need-number-at-requires
-number-at-requires c κs = number-here (yes (c .before))
+number-at-requires c κs =
+    let y = yes (c .before) in
+    let s = c .before .before .before .before .before .args .image .now in
+    omega (arith, payload-within s (taken-is s (y .list) (y .is) .0))
 
 cast-t7 : tie.Need-cast-t7
 cast-t7 c = search needs

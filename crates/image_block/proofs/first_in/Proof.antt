@@ -23,7 +23,7 @@ step-at-requires : tie.Need-step-at-requires
 step-at-requires c κs =
     let p = c .before .before .before .before .pre in
     let some = below-within (p .0) (c .before .before .before .before .args .x) (p .1) in
-    (omega (arith, p .0, largest-coded), (p .0 .size, within-list (p .0) (steps-row (p .0) (c .before .if1 .left)) (omega arith)))
+    (omega (arith, p .0 .fits, largest-coded), (p .0 .fits .size, within-list (p .0) (steps-row (p .0) (c .before .if1 .left)) (omega arith)))
 
 returns-2 : tie.Need-returns-2
 returns-2 c =
@@ -36,7 +36,7 @@ first-at-requires : tie.Need-first-at-requires
 first-at-requires c κs =
     let p = c .before .before .before .before .pre in
     let are = steps-row (p .0) (c .before .if1 .left) in
-    (omega arith, (omega (arith, p .0, largest-coded), (p .0 .size, below-list (p .0) are (p .1))))
+    (omega arith, (omega (arith, p .0 .fits, largest-coded), (p .0 .fits .size, below-list (p .0) are (p .1))))
 
 below-in-requires : tie.Need-below-in-requires
 below-in-requires c κs =

@@ -19,7 +19,7 @@ returns c =
 step-at-requires-2 : tie.Need-step-at-requires-2
 step-at-requires-2 c κs =
     let p = c .before .before .before .pre in
-    (omega (arith, p .0, largest-coded), (p .0 .size, within-list (p .0) (steps-row (p .0) (c .if1 .left)) (p .1)))
+    (omega (arith, p .0 .fits, largest-coded), (p .0 .fits .size, within-list (p .0) (steps-row (p .0) (c .if1 .left)) (p .1)))
 
 returns-2 : tie.Need-returns-2
 returns-2 c =

@@ -8,7 +8,8 @@ use lib.ListN.{length}
 use Rattle.image.specs.declared.Before.{Before}
 use Rattle.image.proofs.Directory.{Clean}
 use Rattle.read.specs.declared.Checked.the-variants.{Refused}
-use Rattle.read.proofs.Ahead.{ahead-clean, ahead-fitting}
+use Rattle.image_directory.proofs.Ahead.{ahead-clean}
+use Rattle.image_block.proofs.Steps.{fitting, part-size}
 use Rattle.read.proofs.Turns.{Checking, checking-start, checking-next, checking-halt, checking-end}
 use Rattle.read.proofs.blocks.Statement.{statement}
 use Rattle.read.proofs.blocks.Tie as tie
@@ -19,40 +20,43 @@ Inv-loop image payload m b₀ i₀ b i = Checking image payload m b i
 abbrev μ-loop : tie.MeasureT-loop
 μ-loop image payload m b₀ i₀ b i = m - i
 
+start-requires : tie.Need-start-requires Inv-loop μ-loop
+start-requires c κs = search needs
+
 loop-holds : tie.Need-loop-holds Inv-loop μ-loop
 loop-holds c =
-    let s = c .before .before in
-    checking-start (s .args .image .now) (s .args .payload .now) (s .args .m) (s .pre)
+    let s = c .before .before .before in
+    subst (λ (b : Before). Checking (s .args .image .now) (s .args .payload .now) (s .args .m) b 0) (sym (c .start .ensures))
+    (checking-start (s .args .image .now) (s .args .payload .now) (s .args .m) (s .pre))
 
-mul-entry-at : tie.Need-mul-entry-at Inv-loop μ-loop
-mul-entry-at c = search needs
+entry-requires : tie.Need-entry-requires Inv-loop μ-loop
+entry-requires c κs = search needs
 
-add-entry-at : tie.Need-add-entry-at Inv-loop μ-loop
-add-entry-at c = search needs
+-- the function's start, and the turn in which an entry was read
+abbrev start : tie.At-loop Inv-loop μ-loop → tie.Start Inv-loop μ-loop
+start c = c .before .before .before .before
 
-entry-at-requires : tie.Need-entry-at-requires Inv-loop μ-loop
-entry-at-requires c κs = search needs
+abbrev turn : tie.After-entry Inv-loop μ-loop → tie.At-loop Inv-loop μ-loop
+turn c = c .before .before
 
 -- what is known once the entry was read
-clean : (c : tie.After-entry-at Inv-loop μ-loop)
-    → Clean (length (c .before .before .before .before .before .args .payload .now)) (c .before .before .loop .b) (c .entry-at .result)
-clean c = ahead-clean (c .before .before .loop .inv .ahead) (c .entry-at .result) (c .entry-at .ensures .0) (c .before .loop-test .taken)
+clean : (c : tie.After-entry Inv-loop μ-loop) → Clean (length (start (turn c) .args .payload .now)) (turn c .loop .b) (c .entry .result)
+clean c = ahead-clean (turn c .loop .inv .ahead) (c .entry .result) (c .entry .ensures .0) (c .before .loop-test .taken)
 
-sub-block-number : tie.Need-sub-block-number Inv-loop μ-loop
-sub-block-number c = omega (arith, clean c .end)
+sub-number : tie.Need-sub-number Inv-loop μ-loop
+sub-number c = omega (arith, clean c .end)
 
-part-block-number-start : tie.Need-part-block-number-start Inv-loop μ-loop
-part-block-number-start c = omega (arith, clean c .end, clean c .within)
+part-number-start : tie.Need-part-number-start Inv-loop μ-loop
+part-number-start c = omega (arith, clean c .end, clean c .within)
 
-part-block-number-end : tie.Need-part-block-number-end Inv-loop μ-loop
-part-block-number-end c = omega (arith, clean c .within)
+part-number-end : tie.Need-part-number-end Inv-loop μ-loop
+part-number-end c = omega (arith, clean c .within)
 
-block-number-requires : tie.Need-block-number-requires Inv-loop μ-loop
-block-number-requires c κs =
+number-requires : tie.Need-number-requires Inv-loop μ-loop
+number-requires c κs =
     let e = c .before in
-    let l = e .before .before in
-    ahead-fitting (l .loop .inv .ahead) (e .entry-at .result) (e .entry-at .ensures .0) (e .before .loop-test .taken)
-    (l .before .before .before .pre .few)
+    let s = start (turn e) in
+    fitting (clean e) (part-size (s .args .payload .now) (clean e) (s .pre .few))
 
 cast-refuse : tie.Need-cast-refuse Inv-loop μ-loop
 cast-refuse c = search needs
@@ -65,8 +69,8 @@ returns c =
     let n = c .before .before in
     let e = n .before .before in
     ap Refused (c .refuse .ensures)
-    ∙ checking-halt (e .before .before .loop .inv) (e .entry-at .result) (e .entry-at .ensures .0) (e .before .loop-test .taken)
-    (n .block-number .result) (n .block-number .ensures) (c .before .if1 .taken)
+    ∙ checking-halt (turn e .loop .inv) (e .entry .result) (e .entry .ensures .0) (e .before .loop-test .taken)
+    (n .number .result) (n .number .ensures) (c .before .if1 .taken)
 
 after-requires : tie.Need-after-requires Inv-loop μ-loop
 after-requires c κs = search needs
@@ -81,14 +85,14 @@ loop-again : tie.Need-loop-again Inv-loop μ-loop
 loop-again c =
     let n = c .before .before in
     let e = n .before .before in
-    let l = e .before .before in
-    let a = l .before .before .before .args in
+    let l = turn e in
+    let a = start l .args in
     subst (λ (b : Before). Checking (a .image .now) (a .payload .now) (a .m) b (l .loop .i + 1)) (sym (c .after .ensures))
-    (checking-next (l .loop .inv) (e .entry-at .result) (e .entry-at .ensures .0) (e .before .loop-test .taken) (n .block-number .result)
-    (n .block-number .ensures) (omega arith))
+    (checking-next (l .loop .inv) (e .entry .result) (e .entry .ensures .0) (e .before .loop-test .taken) (n .number .result)
+    (n .number .ensures) (omega arith))
 
-cast-t18 : tie.Need-cast-t18 Inv-loop μ-loop
-cast-t18 c = search needs
+cast-t17 : tie.Need-cast-t17 Inv-loop μ-loop
+cast-t17 c = search needs
 
 returns-2 : tie.Need-returns-2 Inv-loop μ-loop
 returns-2 c = checking-end (c .before .before .loop .inv) (c .before .loop-test .left)
@@ -99,14 +103,13 @@ blocks-spec =
     (tie.spec
     Inv-loop
     μ-loop
+    start-requires
     loop-holds
-    mul-entry-at
-    add-entry-at
-    entry-at-requires
-    sub-block-number
-    part-block-number-start
-    part-block-number-end
-    block-number-requires
+    entry-requires
+    sub-number
+    part-number-start
+    part-number-end
+    number-requires
     cast-refuse
     refuse-requires
     returns
@@ -114,5 +117,5 @@ blocks-spec =
     add-i
     loop-less
     loop-again
-    cast-t18
+    cast-t17
     returns-2)

@@ -1,15 +1,36 @@
 -- `read::read` meets its contract: a refusal of the check, a buffer that is too short, or the steps put into its front. Assumes nothing.
-use mathlib.Core.Path.{ap, _∙_}
+use mathlib.Core.Path.{_≡_, sym, ap, _∙_, subst}
+use mathlib.Core.List.{List}
+use Prim.Native.Nat.{ℕ, _≤_}
 use native.Mathlib.Omega.{arith}
 use borrow.Author.Needs.{needs}
 use lib.ListN.{length}
 use lib.Seq.{sets}
-use Rattle.read.specs.Read.{paperOf}
+use Rattle.lists.specs.Bytes.{Bytes}
+use Rattle.rules.specs.Numbers.{numberAt}
+use Rattle.image.specs.Taken.{stepsOf, Taken, payloadIn}
+use Rattle.read.specs.Inside.{Ready}
+use Rattle.read.specs.Read.{paperOf, values}
+use Rattle.rules.specs.Paper.{refusing}
+use Rattle.rules.specs.declared.Refusal.{Refusal}
+use Rattle.image_directory.proofs.Whole.{payload-within}
 use Rattle.read.proofs.Answers.{Yes, answer-yes, answer-no}
-use Rattle.read.proofs.Outcomes.{read-no, read-short, read-full}
-use Rattle.read.proofs.Whole.{number-here, payload-here, list-here, ready-here}
+use Rattle.read.proofs.Outcomes.{read-no, read-short, read-full, taken-ready, taken-list, yes-taken-is}
 use Rattle.read.proofs.read.Statement.{statement}
 use Rattle.read.proofs.read.Tie as tie
+
+-- the function's start, and where the check accepted
+abbrev start : tie.After-c2 → tie.Start
+start c = c .before .before .before .before .before
+
+abbrev accepted : tie.After-payload → tie.After-c2
+accepted c = c .before .before .before .before
+
+yes : (c : tie.After-c2) → Yes (start c .args .image .now) (c .c2 .given .0 .0)
+yes c = answer-yes (start c .args .image .now) (c .before .before .check .ensures) (c .c2 .given .1)
+
+bytes : (c : tie.After-c2) → Bytes (start c .args .image .now)
+bytes c = λ i. omega (arith, c .before .before .before .before .shared-slice-known .given i)
 
 check-requires : tie.Need-check-requires
 check-requires c κs = search needs
@@ -23,48 +44,28 @@ enum-known-c-2 c = search needs
 cast-if1 : tie.Need-cast-if1
 cast-if1 c = search needs
 
-refused-requires : tie.Need-refused-requires
-refused-requires c κs = search needs
-
--- the check accepted
-yes : (c : tie.After-c2) → Yes (c .before .before .before .before .before .args .image .now) (c .c2 .given .0 .0)
-yes c = answer-yes (c .before .before .before .before .before .args .image .now) (c .before .before .check .ensures) (c .c2 .given .1)
+refuse-requires : tie.Need-refuse-requires
+refuse-requires c κs = search needs
 
 returns : tie.Need-returns
 returns c =
     let k = c .before .before .before in
-    let a = k .before .before .before .before .before .args in
+    let a = start k .args in
     let t = read-short (a .image .now) (a .steps .now) (yes k) (c .before .if1 .taken) in
-    (ap paperOf (c .refused .ensures) ∙ t .0, t .1)
+    (ap (refusing values) (c .refuse .ensures) ∙ t .0, t .1)
 
 number-at-requires : tie.Need-number-at-requires
-number-at-requires c κs = number-here (yes (c .before .before))
+number-at-requires c κs = let k = c .before .before in omega (arith, payload-within (start k .args .image .now) (yes-taken-is (yes k)))
 
-mul-from : tie.Need-mul-from
-mul-from c = search needs
+payload-requires : tie.Need-payload-requires
+payload-requires c κs = let k = c .before .before .before in payload-within (start k .args .image .now) (yes-taken-is (yes k))
 
-add-from : tie.Need-add-from
-add-from c = search needs
-
-add-from-2 : tie.Need-add-from-2
-add-from-2 c = search needs
-
-sub-fill : tie.Need-sub-fill
-sub-fill c = payload-here (yes (c .before .before .before)) (c .number-at .result) (c .number-at .ensures .0)
-
-part-fill-start : tie.Need-part-fill-start
-part-fill-start c = payload-here (yes (c .before .before .before)) (c .number-at .result) (c .number-at .ensures .0)
-
-part-fill-end : tie.Need-part-fill-end
-part-fill-end c = search needs
-
-fill-requires : tie.Need-fill-requires
-fill-requires c κs =
-    let m = c .before .before in
-    let k = m .before .before .before in
-    let w = k .before .before .before .before in
-    ready-here (yes k) (m .number-at .result) (m .number-at .ensures .0) (λ i. omega (arith, w .shared-slice-known .given i))
-    (m .number-at .ensures .1) (length (w .before .args .steps .now)) (m .before .if1 .left)
+put-blocks-requires : tie.Need-put-blocks-requires
+put-blocks-requires c κs =
+    let p = c .before in
+    let n = p .before in
+    let k = accepted p in
+    taken-ready (yes k) (n .number-at .ensures .0) (p .payload .ensures) (bytes k) (n .before .if1 .left)
 
 returns-2 : tie.Need-returns-2
 returns-2 c =
@@ -78,11 +79,12 @@ same-length c = search needs
 returns-3 : tie.Need-returns-3
 returns-3 c =
     let f = c .before .before in
-    let m = f .before .before .before in
-    let k = m .before .before .before in
-    let a = k .before .before .before .before .before .args in
-    let t = read-full (a .image .now) (a .steps .now) (yes k) (m .before .if1 .left) in
-    (t .0, f .fill .ensures ∙ ap (sets (a .steps .now) 0) (list-here (yes k) (m .number-at .result) (m .number-at .ensures .0)) ∙ t .1)
+    let p = f .before .before in
+    let n = p .before in
+    let k = accepted p in
+    let a = start k .args in
+    let t = read-full (a .image .now) (a .steps .now) (yes k) (n .before .if1 .left) in
+    (t .0, f .put-blocks .ensures ∙ ap (sets (a .steps .now) 0) (taken-list (yes k) (n .number-at .ensures .0) (p .payload .ensures)) ∙ t .1)
 
 pub read-spec : {M : Type 1} → statement M
 read-spec =
@@ -92,16 +94,11 @@ read-spec =
     enum-known-c
     enum-known-c-2
     cast-if1
-    refused-requires
+    refuse-requires
     returns
     number-at-requires
-    mul-from
-    add-from
-    add-from-2
-    sub-fill
-    part-fill-start
-    part-fill-end
-    fill-requires
+    payload-requires
+    put-blocks-requires
     returns-2
     same-length
     returns-3)
