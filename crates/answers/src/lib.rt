@@ -6,7 +6,7 @@ ghost use mathlib.Core.List.{[]};
 ghost use Rattle.rules.specs.Paper.{accepting, refusing};
 ghost use Rattle.clock.specs.Clock as clock;
 ghost use Rattle.read.specs.Read as read;
-ghost use Rattle.write.specs.Promise as write;
+ghost use Rattle.write.specs.Outcome as write;
 ghost use Rattle.ask.specs.Rank as rank;
 ghost use Rattle.ask.specs.First as first;
 ghost use Rattle.ask.specs.Cursor as cursor;

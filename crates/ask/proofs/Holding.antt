@@ -1,24 +1,20 @@
 -- What the directory of an accepted image says: the block that holds a rank, and the block that holds the first step at or after a bound.
 -- Assumes nothing.
 use mathlib.Core.Path.{_≡_, sym, ap, _∙_, subst}
-use mathlib.Core.Bool.{Bool, false}
+use mathlib.Core.Bool.{false}
 use mathlib.Core.List.{List, _++_}
-use Prim.Native.Nat.{ℕ, _+_, _-_, _^_, _≤_, _<_}
+use Prim.Native.Nat.{ℕ, _+_, _-_, _≤_, _<_}
 use native.Mathlib.Omega.{arith}
 use borrow.Author.Tests.{ltb-true, ltb-false, leb-true, leb-false}
-use lib.ListN.{length, getD, drop, length-append, List·getD-append}
+use lib.ListN.{length, getD, length-append, List·getD-append}
 use Rattle.lists.specs.Below.{below}
 use Rattle.lists.specs.Bytes.{Bytes}
 use Rattle.lists.proofs.Below.{below-nil, below-left}
 use Rattle.rules.specs.Limits.{mostSteps}
 use Rattle.rules.specs.Numbers.{numberAt}
-use Rattle.rules.proofs.Numbers.{number-lt}
 use Rattle.image.specs.declared.Entry.{Entry}
 use Rattle.image.specs.declared.Before.{Before}
-use Rattle.image.specs.declared.Fault.the-variants.{Fine}
-use Rattle.image.specs.Entry.{entryPlace, payloadPlace, entriesAt, start, afterEntry}
-use Rattle.image.specs.Verdict.{taken, directoryOf, blocksOf}
-use Rattle.image.proofs.Verdict.{length-payload, peel}
+use Rattle.image.specs.Entry.{entryPlace, start, afterEntry}
 use Rattle.image.specs.Taken.{stepsOf, Taken, entriesIn, payloadIn}
 use Rattle.image_directory.specs.declared.Question.{Question}
 use Rattle.image_directory.specs.declared.Question.the-variants.{Rank, Bound}

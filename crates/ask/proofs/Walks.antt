@@ -28,7 +28,7 @@ abbrev pub walk : (Cursor → Next) → ℕ → Cursor → List ℕ
 walk move zero c = []
 walk move (suc t) c = onNext (move c) (walk move t)
 
--- the same from where a cursor was placed
+-- the steps that a cursor gives from where it was placed
 abbrev pub walkFrom : (Cursor → Next) → ℕ → Placed → List ℕ
 walkFrom move t (placed.At c) = walk move t c
 walkFrom move t (placed.Refused r) = []

@@ -5,7 +5,6 @@ use mathlib.Core.List.{List}
 use Prim.Native.Nat.{ℕ, _-_, _<_}
 use native.Mathlib.Omega.{arith}
 use lib.ListN.{length, getD}
-use Rattle.lists.specs.Rising.{beyond}
 use Rattle.lists.proofs.Parts.{length-part}
 use Rattle.lists.proofs.Rising.{beyond-last}
 use Rattle.image.specs.declared.Before.{Before}

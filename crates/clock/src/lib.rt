@@ -4,13 +4,16 @@ ghost use mathlib.Core.Path.{_≡_};
 ghost use Rattle.clock.specs.Clock.{paperOf, promised};
 use rules::Refusal;
 
-// The steps of a day and of an hour, the minutes of a step, and the days of a year.
+// Document 01: the steps of a day.
 const DAY_STEPS: u32 = 240;
 
+// Document 01: the steps of an hour.
 const HOUR_STEPS: u32 = 10;
 
+// Document 01: the minutes of a step.
 const STEP_MINUTES: u32 = 6;
 
+// Document 01: the days of a year.
 const YEAR_DAYS: u32 = 365;
 
 // A time of the year: the day from 1, hour and minute from 0.

@@ -1,6 +1,6 @@
 -- The code at the front of a part where it has one byte or two.
 -- Assumes nothing.
-use mathlib.Core.Path.{_≡_, refl, sym, ap, _∙_}
+use mathlib.Core.Path.{_≡_, sym, ap, _∙_}
 use mathlib.Core.List.{List, _∷_}
 use Prim.Native.Nat.{ℕ, _+_, _-_, _*_, _/_, _%_, _≤_, _<_}
 use native.Mathlib.Omega.{arith}
@@ -16,18 +16,22 @@ use Rattle.code.specs.Flagged.{kept}
 use Rattle.code.specs.Fronts.{Starts, Brief}
 use Rattle.code.proofs.Flagged.{kept-all, kept-le}
 
+-- what stands from a place on, by the byte there
+pub byte-at : (s : List ℕ) (p b : ℕ) → p < length s → b ≡ getD s p 0 → drop p s ≡ b ∷ drop (p + 1) s
+byte-at s p b h e = drop-one s p 0 h ∙ ap (λ (x : ℕ). x ∷ drop (p + 1) s) (sym e)
+
 -- a byte without the flag is its own code
 pub read-single : (s : List ℕ) (b : ℕ) → 0 < length s → b ≡ getD s 0 0 → b < flag → readAt s 0 ≡ Code b 1
 read-single s b h e g =
-    let d : drop 0 s ≡ b ∷ drop 1 s = drop-one s 0 0 h ∙ ap (λ (x : ℕ). x ∷ drop 1 s) (sym e) in
+    let d = byte-at s 0 b h e in
     read-last d (read-first s 0 d (λ z. omega arith)) g (omega arith) (omega arith)
 
 -- a byte with the flag, which is not the flag alone, and one without it are a code
 pub read-double : (s : List ℕ) (a b : ℕ) → 1 < length s → a ≡ getD s 0 0 → b ≡ getD s 1 0 → flag < a → b < flag
     → readAt s 0 ≡ Code ((a - flag) * oneGroup + b) 2
 read-double s a b h ea eb g l =
-    let one : drop 0 s ≡ a ∷ drop 1 s = drop-one s 0 0 (omega arith) ∙ ap (λ (x : ℕ). x ∷ drop 1 s) (sym ea) in
-    let two : drop 1 s ≡ b ∷ drop 2 s = drop-one s 1 0 h ∙ ap (λ (x : ℕ). x ∷ drop 2 s) (sym eb) in
+    let one = byte-at s 0 a (omega arith) ea in
+    let two = byte-at s 1 b h eb in
     read-last two (read-on one (read-first s 0 one (λ z. omega arith)) (omega arith)) l (omega arith) (omega arith)
 
 -- a code that does not fail does not start with the flag alone

@@ -3,27 +3,30 @@
 
 ghost use mathlib.Core.Path.{_≡_};
 ghost use Prim.Native.Nat.{_+_, _-_, _*_, _≤_, _<_};
-ghost use lib.ListN.{length, getD};
-ghost use lib.Seq.{sets};
+ghost use lib.ListN.{length};
+ghost use Rattle.lists.specs.Stores.{Puts};
 ghost use Rattle.code.specs.declared.Reading.the-variants.{Code};
-ghost use Rattle.code.specs.Code.{oneGroup, twoGroups, threeGroups, flag, codeValues, codeOf, codeSize, readAt};
+ghost use Rattle.code.specs.Code.{oneGroup, twoGroups, codeValues, codeOf, codeSize, readAt};
+ghost use Rattle.code.specs.Code.Inside.{Reached};
 ghost use Rattle.code.specs.Flagged.{kept};
 ghost use Rattle.code.specs.Fronts.{Brief};
 
-// The values of a group, and of two and three groups: the numbers below have codes of one, two and three bytes.
-const ONE_GROUP: u32 = 128;
+// Document 01: the values of a group of seven bits. The numbers below have codes of one byte.
+pub const ONE_GROUP: u32 = 128;
 
+// Document 01: the values of two groups. The numbers below have codes of one byte or two.
 const TWO_GROUPS: u32 = 16384;
 
+// Document 01: the values of three groups. The numbers below have codes of at most three bytes.
 const THREE_GROUPS: u32 = 2097152;
 
-// The numbers below have a code.
+// Document 01: the numbers below have a code, of at most four bytes.
 pub const CODE_VALUES: usize = 268435456;
 
-// The high bit of a byte.
+// Document 01: the high bit of a byte, as a number to reckon with.
 const FLAG: u32 = 128;
 
-// The same as a byte.
+// Document 01: the high bit of a byte, as a byte.
 pub const HIGH: u8 = 128;
 
 // Why no code stands at a place: its first byte is 80 hex, its fourth has the high bit, or the bytes end inside it.
@@ -78,7 +81,7 @@ fn some(high: u32) -> usize
 // first where there is only one.
 fn put_short(out: &mut [u8], at: usize, x: u32) -> usize
     requires { ⌜ (x < twoGroups) × (at + codeSize x ≤ length (now out)) ⌝ }
-    ensures { λ r. ⌜ (r ≡ at + codeSize x) × (now (out .exit) ≡ sets (now (out .entry)) at (codeOf x)) ⌝ }
+    ensures { λ r. ⌜ Puts (now (out .entry)) at (codeOf x) (now (out .exit)) r ⌝ }
 {
     let high = x / ONE_GROUP;
     let last = at + some(high);
@@ -90,7 +93,7 @@ fn put_short(out: &mut [u8], at: usize, x: u32) -> usize
 // Stores the code of x at a place, and gives the place after it.
 pub fn put(out: &mut [u8], at: usize, x: u32) -> usize
     requires { ⌜ (x < codeValues) × (at + codeSize x ≤ length (now out)) ⌝ }
-    ensures { λ r. ⌜ (r ≡ at + codeSize x) × (now (out .exit) ≡ sets (now (out .entry)) at (codeOf x)) ⌝ }
+    ensures { λ r. ⌜ Puts (now (out .entry)) at (codeOf x) (now (out .exit)) r ⌝ }
 {
     if x < TWO_GROUPS {
         return put_short(out, at, x);
@@ -120,9 +123,9 @@ pub fn single(s: &[u8]) -> usize
     requires { ⌜ 0 < length (now s) ⌝ }
     ensures { λ r. ⌜ (r ≤ codeValues) × (r < codeValues → readAt (now (s .entry)) 0 ≡ Code r 1) ⌝ }
 {
-    let a = wide(s[0]);
-    if a < ONE_GROUP {
-        return a as usize;
+    let first = wide(s[0]);
+    if first < ONE_GROUP {
+        return first as usize;
     }
     CODE_VALUES
 }
@@ -132,16 +135,16 @@ pub fn double(s: &[u8]) -> usize
     requires { ⌜ 0 < length (now s) ⌝ }
     ensures { λ r. ⌜ (r ≤ codeValues) × (r < codeValues → readAt (now (s .entry)) 0 ≡ Code r 2) ⌝ }
 {
-    let a = wide(s[0]);
-    if a <= FLAG {
+    let first = wide(s[0]);
+    if first <= FLAG {
         return CODE_VALUES;
     }
     if s.len() == 1 {
         return CODE_VALUES;
     }
-    let b = wide(s[1]);
-    if b < FLAG {
-        return ((a - FLAG) * ONE_GROUP + b) as usize;
+    let second = wide(s[1]);
+    if second < FLAG {
+        return ((first - FLAG) * ONE_GROUP + second) as usize;
     }
     CODE_VALUES
 }
@@ -161,14 +164,45 @@ fn chosen(flagged: u32, one: u32, two: u32) -> u32
 pub fn short(a: u8, b: u8) -> Front
     ensures { λ r. ⌜ Brief a b (r .value) (r .extra) (r .more) ⌝ }
 {
-    let x = wide(a);
-    let y = wide(b);
-    let flagged = x / FLAG;
+    let first = wide(a);
+    let second = wide(b);
+    let flagged = first / FLAG;
     Front {
-        value: chosen(flagged, x, x % ONE_GROUP * ONE_GROUP + y) as usize,
+        value: chosen(flagged, first, first % ONE_GROUP * ONE_GROUP + second) as usize,
         extra: flagged as usize,
         more: kept(a, kept(b, 1)) as usize,
     }
+}
+
+// Reads on at a place after the first two bytes of a code, which have the high bit and are worth `high`.
+fn read_long(s: &[u8], at: usize, high: u32) -> Reading
+    requires { ⌜ (high < twoGroups) × ((at + 2 ≤ length (now s)) × Reached (now s) at 1 (at + 2) high) ⌝ }
+    ensures { λ r. ⌜ r ≡ readAt (now (s .entry)) at ⌝ }
+{
+    let left = s.len() - at;
+    if left <= 2 {
+        return Reading::Bad(Flaw::Cut);
+    }
+    let third = wide(s[at + 2]);
+    let higher = high * ONE_GROUP;
+    if third < FLAG {
+        return Reading::Code {
+            value: higher + third,
+            next: at + 3,
+        };
+    }
+    if left <= 3 {
+        return Reading::Bad(Flaw::Cut);
+    }
+    let fourth = wide(s[at + 3]);
+    let highest = (higher + (third - FLAG)) * ONE_GROUP;
+    if fourth < FLAG {
+        return Reading::Code {
+            value: highest + fourth,
+            next: at + 4,
+        };
+    }
+    Reading::Bad(Flaw::Long)
 }
 
 // Reads the code at a place of a part.
@@ -179,50 +213,28 @@ pub fn read(s: &[u8], at: usize) -> Reading
     if n <= at {
         return Reading::Bad(Flaw::Cut);
     }
-    let a = wide(s[at]);
-    if a < FLAG {
+    let first = wide(s[at]);
+    if first < FLAG {
         return Reading::Code {
-            value: a,
+            value: first,
             next: at + 1,
         };
     }
-    if a == FLAG {
+    if first == FLAG {
         return Reading::Bad(Flaw::Padded);
     }
     if n - at <= 1 {
         return Reading::Bad(Flaw::Cut);
     }
-    let b = wide(s[at + 1]);
-    let h = (a - FLAG) * ONE_GROUP;
-    if b < FLAG {
+    let second = wide(s[at + 1]);
+    let high = (first - FLAG) * ONE_GROUP;
+    if second < FLAG {
         return Reading::Code {
-            value: h + b,
+            value: high + second,
             next: at + 2,
         };
     }
-    if n - at <= 2 {
-        return Reading::Bad(Flaw::Cut);
-    }
-    let d = wide(s[at + 2]);
-    let k = (h + (b - FLAG)) * ONE_GROUP;
-    if d < FLAG {
-        return Reading::Code {
-            value: k + d,
-            next: at + 3,
-        };
-    }
-    if n - at <= 3 {
-        return Reading::Bad(Flaw::Cut);
-    }
-    let e = wide(s[at + 3]);
-    let l = (k + (d - FLAG)) * ONE_GROUP;
-    if e < FLAG {
-        return Reading::Code {
-            value: l + e,
-            next: at + 4,
-        };
-    }
-    Reading::Bad(Flaw::Long)
+    read_long(s, at, high + (second - FLAG))
 }
 
 // A number of seven bits where a byte has the high bit, else 0. A product, since a test would become a branch.

@@ -11,7 +11,7 @@ use Rattle.lists.proofs.Choice.{pick-yes, pick-no, by-lt}
 use Rattle.code.specs.Code.{oneGroup, twoGroups, threeGroups, flag}
 use Rattle.code.specs.Flagged.{kept}
 use Rattle.code.proofs.Flagged.{kept-none, kept-all, kept-le}
-use Rattle.code_stretch.specs.Bytewise.{
+use Rattle.code_stretch.specs.Inside.Bytewise.{
   weight,
   last,
   wrong,

@@ -11,7 +11,7 @@ use Rattle.lists.proofs.Parts.{drop-one}
 use Rattle.code.specs.declared.Reading.the-variants.{Code}
 use Rattle.code.specs.Code.{oneGroup, twoGroups, threeGroups, flag, readAt}
 use Rattle.code.specs.Code.Inside.{Reached, read-first, read-last, read-on}
-use Rattle.code_stretch.specs.Bytewise.{weightAt, lastAt, wrongAt, between, Added}
+use Rattle.code_stretch.specs.Inside.Bytewise.{weightAt, lastAt, wrongAt, between, Added}
 use Rattle.code_stretch.specs.Runs.{Passed}
 use Rattle.code.proofs.Flagged.{kept-all}
 use Rattle.code_stretch.proofs.Bytewise.{
@@ -228,7 +228,7 @@ module _ (s : List ℕ) (n : ℕ) (l : n ≤ length s) (e : getD s (n - 1) 0 < f
       → Passed s at n (between (lastAt s) at n) (between (weightAt s) at n)
   passed at h z w = passed-by n at (omega arith) (omega arith) (λ g. z) w
 
--- the same of bytes that were added up in two parts
+-- bytes that were added up in two parts are codes, where nothing is wrong in either
 pub passed-parts : {s : List ℕ} {at mid n : ℕ} {v e f v′ e′ f′ : ℕ} → Added s at mid v e f → Added s mid n v′ e′ f′
     → at < mid
     → mid ≤ n

@@ -1,2 +1,2 @@
-pub mod Bytewise
 pub mod Runs
+pub mod Inside

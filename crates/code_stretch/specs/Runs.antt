@@ -6,6 +6,11 @@ use lib.ListN.{length}
 use Rattle.code.specs.declared.Reading.the-variants.{Code}
 use Rattle.code.specs.Code.{readAt}
 
+-- the bytes that have to be there for codes to be passed at once: 64 are added up, the last code goes on in at most three more, and what is learnt
+-- of a byte depends on the next three
+abbrev pub reach : ℕ
+reach = 70
+
 -- the codes from `at` to before `n` are those of `xs`
 abbrev pub Run : List ℕ → ℕ → List ℕ → ℕ → Type 0
 Run s at [] n = at ≡ n

@@ -5,23 +5,26 @@ ghost use mathlib.Core.Path.{_≡_};
 ghost use Prim.Native.Nat.{_+_, _-_, _*_, _≤_, _<_};
 ghost use lib.ListN.{length, getD};
 ghost use Rattle.code.specs.Code.{oneGroup, twoGroups, threeGroups, flag, codeValues};
-ghost use Rattle.code_stretch.specs.Bytewise.{stretch, reach, Shares, Added};
-ghost use Rattle.code_stretch.specs.Runs.{Passed};
+ghost use Rattle.code_stretch.specs.Inside.Bytewise.{stretch, Shares, Added};
+ghost use Rattle.code_stretch.specs.Runs.{reach, Passed};
 
-// Bytes that are added up at once.
+// Free: measured; the proofs know it as `stretch`. Bytes that are added up at once.
 const STRETCH: usize = 64;
 
-// Bytes that have to be there for it: the last code may go on in three more, and what a byte says depends on the next three.
+// Free: it follows from the stretch, the proofs know it as `reach`. Bytes that have to be there to pass one: the last code may go on in three
+// more, and what a byte says depends on the next three.
 pub const REACH: usize = 70;
 
-// What counts for something that is wrong.
+// Free: any number but 0. What counts for something that is wrong.
 const FAULT: usize = 1;
 
-// How much more a group is worth for the first, the second and the third byte that follows it.
+// Document 01: how much more a group is worth where one byte follows it in its code than where none does.
 const SECOND: usize = 127;
 
+// Document 01: how much more it is worth where two follow than where one does.
 const THIRD: usize = 16256;
 
+// Document 01: how much more it is worth where three follow than where two do.
 const FOURTH: usize = 2080768;
 
 // What a byte and the next three say of it: the shares of what it adds to its code's value, whether a code ends with it, whether

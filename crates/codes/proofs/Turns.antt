@@ -1,21 +1,21 @@
 -- What a loop over the codes of a block goes by: one code more, a code that fails, and the end.
 -- Assumes nothing.
 use mathlib.Core.Path.{_≡_, refl, sym, ap, _∙_, subst}
-use mathlib.Core.List.{List, [], _∷_, _++_}
-use Prim.Native.Nat.{ℕ, suc, _+_, _-_, _^_, _≤_, _<_}
+use mathlib.Core.List.{List, [], _∷_}
+use Prim.Native.Nat.{ℕ, suc, _+_, _^_, _≤_, _<_}
 use native.Mathlib.Omega.{arith}
 use native.Mathlib.Numerals.{add-one}
-use lib.ListN.{length, getD, drop, drop-of-length-le}
+use lib.ListN.{length}
 use Rattle.lists.specs.Rising.{Rising, beyond}
 use Rattle.lists.specs.Bytes.{Bytes}
 use Rattle.lists.proofs.Rising.{rising-beyond}
-use Rattle.lists.proofs.Parts.{drop-one}
 use Rattle.code.specs.declared.Flaw.{Flaw}
 use Rattle.code.specs.declared.Reading.the-variants.{Code, Bad}
-use Rattle.code.specs.Code.{codeValues, codeOf, codeSize, readAt}
+use Rattle.code.specs.Code.{readAt}
 use Rattle.code.specs.Code.Laws.{Read, read-sound}
 use Rattle.codes.specs.declared.Tally.the-variants.{Steps, Wrong}
-use Rattle.codes.specs.Codes.{Values, all, bad, onTop, stepsFrom, listOf, tallyOf, Sound, Turn, codesFor}
+use Rattle.codes.specs.Codes.{Values, all, bad, onTop, stepsFrom, listOf, tallyOf, Sound}
+use Rattle.codes.specs.Inside.Turn.{Turn}
 use Rattle.codes.proofs.Codes.{
   read-passes,
   bad-all,
@@ -23,9 +23,6 @@ use Rattle.codes.proofs.Codes.{
   steps-bad,
   steps-more,
   rising-steps,
-  codes-nil,
-  codes-cons,
-  length-codes-cons,
 }
 
 -- ---- a block that is checked: `c` steps were found, and the next is at least `o`
@@ -79,33 +76,3 @@ module _ (o : ℕ) (s : List ℕ) (at : ℕ) (k : Sound o (stepsFrom o s at)) wh
 -- nothing is left
 pub steps-none : (o : ℕ) (s : List ℕ) (at : ℕ) → length s ≤ at → listOf (stepsFrom o s at) ≡ []
 steps-none o s at h = ap listOf (steps-end o s at h)
-
--- ---- a list that is written: its steps from rank `i` on are at least `o`
-
--- what the step at rank `i` says of itself and of what is left
-pub record Next (o : ℕ) (xs : List ℕ) (i : ℕ) : Type 0 where
-  pub least : o ≤ getD xs i 0
-  pub small : getD xs i 0 < codeValues
-  pub rising : Rising (getD xs i 0 + 1) (drop (i + 1) xs)
-  pub end : beyond (getD xs i 0 + 1) (drop (i + 1) xs) ≤ codeValues
-  pub room : codeSize (getD xs i 0 - o) ≤ length (codesFor o (drop i xs))
-  pub codes : codesFor o (drop i xs) ≡ codeOf (getD xs i 0 - o) ++ codesFor (getD xs i 0 + 1) (drop (i + 1) xs)
-
-pub next : (o : ℕ) (xs : List ℕ) (i : ℕ) → i < length xs → Rising o (drop i xs) → beyond o (drop i xs) ≤ codeValues → Next o xs i
-next o xs i h r b =
-    let x = getD xs i 0 in
-    let d : drop i xs ≡ x ∷ drop (i + 1) xs = drop-one xs i 0 h in
-    let v : Rising o (x ∷ drop (i + 1) xs) = subst (Rising o) d r in
-    let u : beyond (suc x) (drop (i + 1) xs) ≤ codeValues = subst (λ (l : List ℕ). beyond o l ≤ codeValues) d b in
-    record {
-      least = v .0;
-      small = omega (arith, rising-beyond (suc x) (drop (i + 1) xs) (v .1));
-      rising = rw (add-one x) (v .1);
-      end = rw (add-one x) u;
-      room = omega (arith, ap (λ (l : List ℕ). length (codesFor o l)) d, length-codes-cons o x (drop (i + 1) xs));
-      codes = ap (codesFor o) d ∙ codes-cons o x (drop (i + 1) xs) ∙ rw (add-one x);
-    }
-
--- nothing is left
-pub codes-none : (o : ℕ) (xs : List ℕ) (i : ℕ) → length xs ≤ i → codesFor o (drop i xs) ≡ []
-codes-none o xs i h = ap (codesFor o) (drop-of-length-le xs h) ∙ codes-nil o

@@ -8,7 +8,7 @@ use Rattle.lists.specs.Gaps.{gaps, fromGaps}
 use Rattle.code.specs.declared.Flaw.{Flaw}
 use Rattle.code.specs.declared.Reading.{Reading}
 use Rattle.code.specs.declared.Reading.the-variants.{Code, Bad}
-use Rattle.code.specs.Code.{oneGroup, codeValues, codeOf, readAt}
+use Rattle.code.specs.Code.{codeValues, codeOf, readAt}
 use Rattle.codes.specs.declared.Tally.{Tally}
 use Rattle.codes.specs.declared.Tally.the-variants.{Steps, Wrong}
 
@@ -51,15 +51,6 @@ Small (x ∷ xs) = (x < codeValues) × Small xs
 unfoldable pub codesFor : ℕ → List ℕ → List ℕ
 codesFor o xs = codesOf (gaps o xs)
 
--- the steps whose codes are written at once where each is a single byte
-abbrev pub group : ℕ
-group = 16
-
--- each gap of a list has a code of a single byte
-abbrev pub Near : ℕ → List ℕ → Type 0
-Near o [] = Unit {0}
-Near o (x ∷ xs) = (x - o < oneGroup) × Near (suc x) xs
-
 -- the steps for values that are gaps
 abbrev pub asSteps : ℕ → Values → Values
 asSteps o (all vs) = all (fromGaps o vs)
@@ -83,11 +74,3 @@ tallyOf c o (bad w n) = Wrong w n
 pub record Sound (o : ℕ) (v : Values) : Type 0 where
   pub whole : v ≡ all (listOf v)
   pub small : beyond o (listOf v) ≤ 2 ^ 32
-
--- the code at `at` stands for `step` and ends before `n`, in such a block: what is left after it is one too
-pub record Turn (o : ℕ) (s : List ℕ) (at step n : ℕ) : Type 0 where
-  pub is : listOf (stepsFrom o s at) ≡ step ∷ listOf (stepsFrom (step + 1) s n)
-  pub sound : Sound (step + 1) (stepsFrom (step + 1) s n)
-  pub fits : step < 2 ^ 32
-  pub on : at < n
-  pub within : n ≤ length s

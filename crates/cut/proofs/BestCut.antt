@@ -161,8 +161,5 @@ module _ (cost : ℕ → ℕ → Kind → ℕ) (n : ℕ) where
       best-one (best-cut-best i (omega (arith, l .after, l .within)))
       (best-step cost (bestCut cost n) (λ u p q. best-cut-best u q) l)
 
-  pub least-step : {i j : ℕ} {k : Kind} → Leader (λ u l. cost i u l + least cost n u) i n j k → least cost n i ≡ cost i j k + least cost n j
-  least-step {i} l = ap (bytes cost i) (leader-of l)
-
   pub least-end : least cost n n ≡ 0
   least-end = ap (bytes cost n) best-cut-end

@@ -38,6 +38,7 @@ module _ (cost : ℕ → ℕ → Kind → ℕ) (n : ℕ) where
         },
       )
 
+  -- for a reader: there are such numbers, the bytes of the best cuts
   pub least-value : Value cost n (least cost n)
   least-value = record {
     end = least-end cost n;

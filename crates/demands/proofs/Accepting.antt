@@ -13,7 +13,6 @@ use Rattle.lists.specs.Choice.{pick}
 use Rattle.lists.specs.Below.{below}
 use Rattle.lists.specs.Bytes.{Bytes}
 use Rattle.lists.proofs.Choice.{either-way, by-lt, pick-yes, pick-no}
-use Rattle.rules.specs.Limits.{mostSteps}
 use Rattle.rules.specs.Sizes.{workFor}
 use Rattle.rules.specs.Refusals.{notInTheYear, stepsTooShort, rankTooLarge, noSuchCursor, refusal}
 use Rattle.rules.specs.declared.Refusal.{Refusal}
@@ -25,15 +24,16 @@ use Rattle.read.specs.Read as read
 use Rattle.ask.specs.Rank as rank
 use Rattle.ask.specs.First as first
 use Rattle.ask.specs.Cursor as cursor
+use Rattle.write_list.proofs.Tests.{by-tests}
 use Rattle.write.specs.Written.{imageFor}
-use Rattle.write.specs.Faults.{firstAbove, firstFall}
+use Rattle.write.specs.Outcome.{Outcome, stopped, answer}
 use Rattle.write.specs.Promise as write
-use Rattle.write.proofs.Faults.{faultless-listed}
-use Rattle.write.proofs.Outcomes.{outcome-many, outcome-above, outcome-fall, outcome-work, outcome-unplaced, outcome-placed}
+use Rattle.write.proofs.Outcomes.{outcome-refused, outcome-work, outcome-unplaced, outcome-placed}
+use Rattle.outcome.specs.Result.{ofResult}
+use Rattle.outcome.proofs.Results.{result-placed, accepted-placed}
 use Rattle.pair_operation.specs.declared.Operation.{Operation}
 use Rattle.pair_operation.specs.Result.{resultOf}
 use Rattle.pair.specs.Promise as pair
-use Rattle.pair.proofs.Outcomes.{result-placed, accepted-placed}
 use Rattle.demands.specs.Inputs.{Accepts, Image, ImageWhere, WriteRoom, PairRoom}
 
 -- ---- by a test
@@ -113,46 +113,43 @@ module _ {s : List ℕ} (w : Bytes s) where
 -- ---- writing
 
 module _ (xs : List ℕ) (work out : ℕ) where
-  write-room : Accepts (write.answer xs (write.outcome xs work out)) → WriteRoom xs work out
+  write-room : Accepts (answer (write.outcome xs work out)) → WriteRoom xs work out
   write-room a =
-      by-lt mostSteps (length xs) (λ h. stops (outcome-many xs work out h))
-      (λ few. by-lt (firstAbove xs) (length xs) (λ h. stops (outcome-above xs work out few h))
-      (λ b. by-lt (firstFall xs) (length xs) (λ h. stops (outcome-fall xs work out few b h))
-      (λ f. let l = faultless-listed xs few b f in
-      by-lt work (workFor (length xs)) (λ h. stops (outcome-work xs work out l h))
+      by-tests xs (λ r e. stops (outcome-refused xs work out e))
+      (λ l. by-lt work (workFor (length xs)) (λ h. stops (outcome-work xs work out l h))
       (λ r. by-lt out (length (imageFor xs)) (λ h. refuses (at (outcome-unplaced xs work out l r h)))
-      (λ h. record { listed = l; work-room = r; out-room = h })))))
+      (λ h. record { listed = l; work-room = r; out-room = h })))
     where
-      at : {o : write.Outcome} → write.outcome xs work out ≡ o → Accepts (write.answer xs o)
-      at e = subst (λ (o : write.Outcome). Accepts (write.answer xs o)) e a
+      at : {o : Outcome} → write.outcome xs work out ≡ o → Accepts (answer o)
+      at e = subst (λ (o : Outcome). Accepts (answer o)) e a
 
-      stops : {X : Type 0} {n p : ℕ} → write.outcome xs work out ≡ write.refused n p → X
-      stops {n = n} {p = p} e = refuses (at e)
+      stops : {X : Type 0} {r : Refusal} → write.outcome xs work out ≡ stopped r → X
+      stops e = refuses (at e)
 
-  pub write-accepts : Accepts (write.answer xs (write.outcome xs work out)) ↔ WriteRoom xs work out
+  pub write-accepts : Accepts (answer (write.outcome xs work out)) ↔ WriteRoom xs work out
   write-accepts = (
     write-room,
-    λ r. subst (λ (o : write.Outcome). Accepts (write.answer xs o)) (sym (outcome-placed xs work out (r .listed) (r .work-room) (r .out-room))) refl,
+    λ r. subst (λ (o : Outcome). Accepts (answer o)) (sym (outcome-placed xs work out (r .listed) (r .work-room) (r .out-room))) refl,
   )
 
 -- ---- an operation
 
 module _ (zs : List ℕ) (steps work out : ℕ) where
-  result-room : Accepts (pair.answer (pair.onResult zs steps work out)) → PairRoom zs steps work out
+  result-room : Accepts (answer (ofResult zs steps work out)) → PairRoom zs steps work out
   result-room a =
       let p = accepted-placed zs steps work out a in
-      record { few = p .few; steps-room = p .steps-room; work-room = p .work-room; out-room = p .out-room }
+      record { few = p .room .few; steps-room = p .room .steps-room; work-room = p .room .work-room; out-room = p .out-room }
 
-  room-result : PairRoom zs steps work out → Accepts (pair.answer (pair.onResult zs steps work out))
+  room-result : PairRoom zs steps work out → Accepts (answer (ofResult zs steps work out))
   room-result r =
-      subst (λ (o : pair.Outcome). Accepts (pair.answer o))
-      (sym (result-placed zs (length zs) steps work out refl (r .few) (r .steps-room) (r .work-room) (r .out-room))) refl
+      subst (λ (o : Outcome). Accepts (answer o))
+      (sym (result-placed zs steps work out (record { few = r .few; steps-room = r .steps-room; work-room = r .work-room }) (r .out-room))) refl
 
 pub pair-accepts : (op : Operation) {one two : List ℕ} → Bytes one → Bytes two → (steps work out : ℕ)
-    → Accepts (pair.answer (pair.outcome op one two steps work out))
+    → Accepts (answer (pair.outcome op one two steps work out))
     ↔ ImageWhere one (λ xs. ImageWhere two (λ ys. PairRoom (resultOf op xs ys) steps work out))
 pair-accepts op {one} {two} v w steps work out =
-    by-verdict v (λ u. pair.answer (pair.onVerdicts op u (verdict two) steps work out)) (λ r. refuses) _
+    by-verdict v (λ u. answer (pair.onVerdicts op u (verdict two) steps work out)) (λ r. refuses) _
     (λ xs.
-    by-verdict w (λ u. pair.answer (pair.onVerdicts op (taken xs) u steps work out)) (λ r. refuses) _
+    by-verdict w (λ u. answer (pair.onVerdicts op (taken xs) u steps work out)) (λ r. refuses) _
     (λ ys. (result-room (resultOf op xs ys) steps work out, room-result (resultOf op xs ys) steps work out)))

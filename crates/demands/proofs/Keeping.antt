@@ -14,7 +14,9 @@ use Rattle.image.specs.Verdict.{Verdict, taken, refused, verdict}
 use Rattle.read.specs.declared.Checked.the-variants as checked
 use Rattle.read.specs.Read as read
 use Rattle.write.specs.declared.Counted.the-variants as counted
+use Rattle.write.specs.Outcome.{values, Outcome, stopped, unplaced, placed, answer, workAfter, outAfter}
 use Rattle.write.specs.Promise as write
+use Rattle.outcome.specs.Result.{stepsAfter}
 use Rattle.pair_operation.specs.declared.Operation.{Operation}
 use Rattle.pair.specs.Promise as pair
 use Rattle.demands.specs.Promises.{Read, Write, Pair}
@@ -34,11 +36,11 @@ write-keeps xs work out work′ out′ r p =
     let k = by (write.outcome xs (length work) (length out)) (p .answers) in
     (p .outputs ∙ k .0, λ h. p .works ∙ k .1 h)
   where
-    by : (o : write.Outcome) → refusing write.values r ≡ write.answer xs o
-        → (write.outAfter xs out o ≡ out) × ((r .number ≡ outputTooShort → ⊥) → write.workAfter xs work o ≡ work)
-    by (write.refused n q) e = (refl, λ h. refl)
-    by write.unplaced e = (refl, λ h. absurd (h (ap (λ (p : Paper). p .number) e)))
-    by write.placed e = paper-apart write.values (sym e)
+    by : (o : Outcome) → refusing values r ≡ answer o
+        → (outAfter out o ≡ out) × ((r .number ≡ outputTooShort → ⊥) → workAfter work o ≡ work)
+    by (stopped t) e = (refl, λ h. refl)
+    by (unplaced zs) e = (refl, λ h. absurd (h (ap (λ (p : Paper). p .number) e)))
+    by (placed zs) e = paper-apart values (sym e)
 
 pub pair-keeps : (op : Operation) (one two steps work out steps′ work′ out′ : List ℕ) (r : Refusal)
     → Pair (op, one, two, steps, work, out) (counted.Refused r, steps′, work′, out′)
@@ -47,8 +49,8 @@ pair-keeps op one two steps work out steps′ work′ out′ r p =
     let k = by (pair.outcome op one two (length steps) (length work) (length out)) (p .answers) in
     (p .outputs ∙ k .0, λ h. (p .stores ∙ k .1 h .0, p .works ∙ k .1 h .1))
   where
-    by : (o : pair.Outcome) → refusing write.values r ≡ pair.answer o
-        → (pair.outAfter out o ≡ out) × ((r .number ≡ outputTooShort → ⊥) → (pair.stepsAfter steps o ≡ steps) × (pair.workAfter work o ≡ work))
-    by (pair.stopped t) e = (refl, λ h. (refl, refl))
-    by (pair.unplaced zs) e = (refl, λ h. absurd (h (ap (λ (p : Paper). p .number) e)))
-    by (pair.placed zs) e = paper-apart write.values (sym e)
+    by : (o : Outcome) → refusing values r ≡ answer o
+        → (outAfter out o ≡ out) × ((r .number ≡ outputTooShort → ⊥) → (stepsAfter steps o ≡ steps) × (workAfter work o ≡ work))
+    by (stopped t) e = (refl, λ h. (refl, refl))
+    by (unplaced zs) e = (refl, λ h. absurd (h (ap (λ (p : Paper). p .number) e)))
+    by (placed zs) e = paper-apart values (sym e)

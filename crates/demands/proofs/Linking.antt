@@ -25,7 +25,7 @@ ends-write op t u e {zs} h w =
 
 module _ (op : Operation) {one two xs ys : List ℕ} (a : Accepted one xs) (c : Accepted two ys) where
   pub made-links : {b : List ℕ} → Made op one two b → Link op one two b
-  made-links m = subst (Link op one two) (m .front) (accepted-link (accepted-bytes a) (accepted-bytes c) (m .kept))
+  made-links m = subst (Link op one two) (m .front) (accepted-link op one two (accepted-bytes a) (accepted-bytes c) (m .kept))
 
   -- an operation is the shortest chain
   pub made-writes : {zs b d : List ℕ} → ((z : ℕ) → has z zs ≡ keeps op (has z xs) (has z ys)) → Made op one two b → Wrote zs d → b ≡ d

@@ -34,8 +34,10 @@ use Rattle.ask.proofs.Decides.{rank-decides, first-decides, start-decides, next
 use Rattle.write.specs.declared.Counted.{Counted}
 use Rattle.write.specs.declared.Counted.the-variants as counts
 use Rattle.write.specs.Written.{imageFor}
+use Rattle.write.specs.Outcome.{paperOf, Outcome, stopped, unplaced, placed, answer, workAfter, outAfter}
 use Rattle.write.specs.Promise as write
 use Rattle.write.proofs.Decides.{write-decides}
+use Rattle.outcome.specs.Result.{stepsAfter}
 use Rattle.pair_operation.specs.declared.Operation.{Operation}
 use Rattle.pair.specs.Promise as pair
 use Rattle.pair.proofs.Decides.{pair-decides}
@@ -93,15 +95,10 @@ skipped k x (taken xs) =
     choose cursor.placedPaper (ltb (length xs) k) (places.Refused (refusal noSuchCursor 0)) (places.At (record { rank = k + below (drop k xs) x }))
 skipped k x (refused r) = (places.Refused r, refl)
 
-written : (xs : List ℕ) (o : write.Outcome) → (r : Counted) × (write.paperOf r ≡ write.answer xs o)
-written xs (write.refused n p) = (counts.Refused (refusal n p), refl)
-written xs write.unplaced = (counts.Refused (refusal outputTooShort (length (imageFor xs))), refl)
-written xs write.placed = (counts.Accepted (length xs) (length (imageFor xs)), refl)
-
-paired : (o : pair.Outcome) → (r : Counted) × (write.paperOf r ≡ pair.answer o)
-paired (pair.stopped r) = (counts.Refused r, refl)
-paired (pair.unplaced zs) = (counts.Refused (refusal outputTooShort (length (imageFor zs))), refl)
-paired (pair.placed zs) = (counts.Accepted (length zs) (length (imageFor zs)), refl)
+ended : (o : Outcome) → (r : Counted) × (paperOf r ≡ answer o)
+ended (stopped r) = (counts.Refused r, refl)
+ended (unplaced xs) = (counts.Refused (refusal outputTooShort (length (imageFor xs))), refl)
+ended (placed xs) = (counts.Accepted (length xs) (length (imageFor xs)), refl)
 
 -- ---- and no two outcomes
 
@@ -141,8 +138,8 @@ settles-write = record { some = some; only = only }
     some : (i : List ℕ × List ℕ × List ℕ) → (o : Counted × List ℕ × List ℕ) × Write i o
     some (xs, work, out) =
         let o = write.outcome xs (length work) (length out) in
-        let r = written xs o in
-        ((r .0, write.workAfter xs work o, write.outAfter xs out o), record { answers = r .1; works = refl; outputs = refl })
+        let r = ended o in
+        ((r .0, workAfter work o, outAfter out o), record { answers = r .1; works = refl; outputs = refl })
 
     only : (i : List ℕ × List ℕ × List ℕ) (a b : Counted × List ℕ × List ℕ) → Write i a → Write i b → a ≡ b
     only (xs, work, out) (a, v, p) (b, w, q) f g = let e = write-decides a b f g in λ i. (e .0 i, e .1 i, e .2 i)
@@ -159,10 +156,10 @@ settles-pair = record { some = some; only = only }
     some : (i : In) → (o : Out) × Pair i o
     some (op, one, two, steps, work, out) =
         let o = pair.outcome op one two (length steps) (length work) (length out) in
-        let r = paired o in (
-          (r .0, pair.stepsAfter steps o, pair.workAfter work o, pair.outAfter out o),
+        let r = ended o in (
+          (r .0, stepsAfter steps o, workAfter work o, outAfter out o),
           record { answers = r .1; stores = refl; works = refl; outputs = refl },
         )
 
     only : (i : In) (a b : Out) → Pair i a → Pair i b → a ≡ b
-    only (op, one, two, steps, work, out) (a, s, v, p) (b, t, w, q) f g = let e = pair-decides a b f g in λ i. (e .0 i, e .1 i, e .2 i, e .3 i)
+    only (op, one, two, steps, work, out) (a, s, v, p) (b, t, w, q) f g = let e = pair-decides op one two a b f g in λ i. (e .0 i, e .1 i, e .2 i, e .3 i)

@@ -20,6 +20,7 @@ use Rattle.ask.specs.First as first
 use Rattle.ask.specs.Cursor as cursor
 use Rattle.write.specs.declared.Counted.the-variants as counted
 use Rattle.write.specs.Written.{imageFor}
+use Rattle.write.specs.Outcome.{answer}
 use Rattle.write.specs.Promise as write
 use Rattle.pair_operation.specs.declared.Operation.{Operation}
 use Rattle.pair_operation.specs.Result.{resultOf}
@@ -73,9 +74,9 @@ pub record AcceptedExactly : Type 0 where
   pub start : {s : List ℕ} → Bytes s → Accepts (cursor.startPromise s) ↔ Image s
   pub next : {s : List ℕ} → Bytes s → (k : ℕ) → Accepts (cursor.nextPromise k s) ↔ ImageWhere s (λ xs. k ≤ length xs)
   pub skip : {s : List ℕ} → Bytes s → (k x : ℕ) → Accepts (cursor.skipPromise k s x) ↔ ImageWhere s (λ xs. k ≤ length xs)
-  pub write : (xs : List ℕ) (work out : ℕ) → Accepts (write.answer xs (write.outcome xs work out)) ↔ WriteRoom xs work out
+  pub write : (xs : List ℕ) (work out : ℕ) → Accepts (answer (write.outcome xs work out)) ↔ WriteRoom xs work out
   pub pair : (op : Operation) {one two : List ℕ} → Bytes one → Bytes two → (steps work out : ℕ)
-      → Accepts (pair.answer (pair.outcome op one two steps work out))
+      → Accepts (answer (pair.outcome op one two steps work out))
       ↔ ImageWhere one (λ xs. ImageWhere two (λ ys. PairRoom (resultOf op xs ys) steps work out))
 
 -- "a refusal changes no buffer, except 15", which leaves the output alone

@@ -12,8 +12,8 @@ use Rattle.image.specs.Entry.{entryAt}
 use Rattle.image.specs.Grammar.{imageOf}
 use Rattle.image.specs.Block.{inRow, judged, blockOf}
 use Rattle.image.specs.Verdict.{faultOf, verdict}
+use Rattle.write_list.specs.Faults.{firstOf}
 use Rattle.write.specs.Written.{imageFor}
-use Rattle.write.specs.Faults.{firstOf}
 use Rattle.pair_operation.specs.Result.{sieve, resultOf}
 use Rattle.examples.specs.Table.{computed, stated, table}
 

@@ -6,6 +6,7 @@ use Rattle.rules.specs.Refusals.{tooFewBytes, bytesLeftOver, badCode, badRow, o
 use Rattle.code.specs.Code.{codeOf}
 use Rattle.image.specs.Verdict as verdicts
 use Rattle.write.specs.Written.{imageFor}
+use Rattle.write.specs.Outcome as outcomes
 use Rattle.write.specs.Promise as writing
 use Rattle.pair_operation.specs.declared.Operation.{Operation}
 use Rattle.pair_operation.specs.declared.Operation.the-variants.{Both, Without}
@@ -30,19 +31,14 @@ pub data Answer : Type 0 where
 abbrev pub imageAnswer : List ℕ → Answer
 imageAnswer b = imageBytes (length b) b
 
-abbrev pub writeAnswer : List ℕ → writing.Outcome → Answer
-writeAnswer xs (writing.refused n p) = refused n 0 p
-writeAnswer xs writing.unplaced = refused outputTooShort 0 (length (imageFor xs))
-writeAnswer xs writing.placed = imageAnswer (imageFor xs)
-
 abbrev pub verdictAnswer : verdicts.Verdict → Answer
 verdictAnswer (verdicts.taken xs) = steps xs
 verdictAnswer (verdicts.refused r) = refused (r .number) (r .side) (r .place)
 
-abbrev pub pairAnswer : pairs.Outcome → Answer
-pairAnswer (pairs.stopped r) = refused (r .number) (r .side) (r .place)
-pairAnswer (pairs.unplaced zs) = refused outputTooShort 0 (length (imageFor zs))
-pairAnswer (pairs.placed zs) = imageAnswer (imageFor zs)
+abbrev pub outcomeAnswer : outcomes.Outcome → Answer
+outcomeAnswer (outcomes.stopped r) = refused (r .number) (r .side) (r .place)
+outcomeAnswer (outcomes.unplaced zs) = refused outputTooShort 0 (length (imageFor zs))
+outcomeAnswer (outcomes.placed zs) = imageAnswer (imageFor zs)
 
 -- the places of each buffer that is lent: as many as the examples need, and more
 abbrev pub room : ℕ
@@ -51,9 +47,9 @@ room = 100
 -- what the definitions answer
 abbrev pub answerTo : Question → Answer
 answerTo (code x) = codeBytes (codeOf x)
-answerTo (write xs) = writeAnswer xs (writing.outcome xs room room)
+answerTo (write xs) = outcomeAnswer (writing.outcome xs room room)
 answerTo (check b) = verdictAnswer (verdicts.verdict b)
-answerTo (pair op b c) = pairAnswer (pairs.outcome op b c room room room)
+answerTo (pair op b c) = outcomeAnswer (pairs.outcome op b c room room room)
 
 -- ---- images of one block, byte by byte
 

@@ -6,9 +6,9 @@ use Prim.Native.Nat.{ℕ}
 use Rattle.read.specs.declared.Checked.{Checked}
 use Rattle.read.specs.Read as read
 use Rattle.write.specs.declared.Counted as write
-use Rattle.write.specs.Promise.{paperOf, Promise}
-use Rattle.pair_operation.specs.declared.Operation.{Operation}
-use Rattle.pair.specs.Promise as pair
+use Rattle.write.specs.Outcome.{paperOf, Outcome}
+use Rattle.write.specs.Promise.{Promise}
+use Rattle.outcome.specs.Result.{Leaves}
 use Rattle.answers.specs.declared.Counted.{Counted}
 use Rattle.answers.specs.Fields.{countedOf}
 use Rattle.huttaralu.specs.Says as says
@@ -23,8 +23,7 @@ pub write-leaves : {list work out : List ℕ} (r : write.Counted) {a : Counted} 
     → (a, work′, out′) ≡ says.write list work out
 write-leaves r e p = let q = e ∙ ap countedOf (p .answers) in λ i. (q i, p .works i, p .outputs i)
 
-pub pair-leaves : {op : Operation} {first second steps work out : List ℕ} (r : write.Counted) {a : Counted} {steps′ work′ out′ : List ℕ}
-    → a ≡ countedOf (paperOf r)
-    → pair.Promise op first second steps work out r steps′ work′ out′
-    → (a, steps′, work′, out′) ≡ says.pair op first second steps work out
+pub pair-leaves : {o : Outcome} {steps work out : List ℕ} (r : write.Counted) {a : Counted} {steps′ work′ out′ : List ℕ} → a ≡ countedOf (paperOf r)
+    → Leaves o steps work out r steps′ work′ out′
+    → (a, steps′, work′, out′) ≡ says.paired steps work out o
 pair-leaves r e p = let q = e ∙ ap countedOf (p .answers) in λ i. (q i, p .stores i, p .works i, p .outputs i)

@@ -11,7 +11,6 @@ use lib.ListN.{length, replicate, length-replicate}
 use Rattle.lists.specs.Below.{below}
 use Rattle.lists.proofs.Choice.{either-way}
 use Rattle.rules.specs.declared.Refusal as rules
-use Rattle.rules.specs.Limits.{mostSteps}
 use Rattle.rules.specs.Sizes.{workFor}
 use Rattle.rules.specs.Refusals.{refusal, rankTooLarge, noSuchCursor, stepsTooShort, outputTooShort, notInTheYear}
 use Rattle.rules.specs.Paper.{Paper, refusing}
@@ -19,14 +18,22 @@ use Rattle.image.specs.Verdict.{Verdict, taken, refused, verdict}
 use Rattle.image.proofs.Named.{NamedVerdict, named-verdict}
 use Rattle.clock.specs.Clock as clock
 use Rattle.read.specs.Read as read
+use Rattle.write_list.specs.declared.Tested.{Tested}
+use Rattle.write_list.specs.declared.Tested.the-variants as tests
+use Rattle.write_list.specs.Tests.{testOf}
+use Rattle.write_list.proofs.Tests.{NamedTest, test-named}
 use Rattle.write.specs.Written.{imageFor}
-use Rattle.write.specs.Faults.{firstAbove, firstFall}
+use Rattle.write.specs.Outcome.{values, Outcome, stopped, unplaced, placed, placing, answer}
 use Rattle.write.specs.Promise as write
 use Rattle.ask.specs.Rank as rank
 use Rattle.ask.specs.First as first
 use Rattle.ask.specs.Cursor as cursor
 use Rattle.pair_operation.specs.declared.Operation.{Operation}
 use Rattle.pair_operation.specs.Result.{resultOf}
+use Rattle.outcome.specs.declared.Room.{Room}
+use Rattle.outcome.specs.declared.Room.the-variants as rooms
+use Rattle.outcome.specs.Result.{roomOf, onRoom, ofResult}
+use Rattle.outcome.proofs.Results.{NamedRoom, room-named}
 use Rattle.pair.specs.Promise as pair
 use Rattle.answers.specs.Fields.{refusalOf, telling, countedOf, rankedOf, firstOf, movedOf, clockOf, checkedPaper, countedPaper, rankedPaper, firstPaper, movedPaper, clockPaper}
 use Rattle.huttaralu.specs.Says as says
@@ -78,48 +85,39 @@ skip-told : (k x : ℕ) (v : Verdict) → NamedVerdict v → Moves (cursor.skipI
 skip-told k x (taken xs) h = moves-rank xs k _ refl
 skip-told k x (refused r) h = tells-refusal cursor.values r h
 
--- how writing ends, where a refusal has a number
-abbrev NamedOutcome : write.Outcome → Type 0
-NamedOutcome (write.refused n p) = 0 < n
-NamedOutcome write.unplaced = Unit {0}
-NamedOutcome write.placed = Unit {0}
+-- how the writing of a list ends, where a refusal has a number
+abbrev NamedOutcome : Outcome → Type 0
+NamedOutcome (stopped r) = 0 < r .number
+NamedOutcome (unplaced xs) = Unit {0}
+NamedOutcome (placed xs) = Unit {0}
 
-named-outcome : (xs : List ℕ) (work out : ℕ) → NamedOutcome (write.outcome xs work out)
-named-outcome xs work out =
-    either-way NamedOutcome (ltb mostSteps (length xs)) (omega arith)
-    (either-way NamedOutcome (ltb (firstAbove xs) (length xs)) (omega arith)
-    (either-way NamedOutcome (ltb (firstFall xs) (length xs)) (omega arith)
-    (either-way NamedOutcome (ltb work (workFor (length xs))) (omega arith)
-    (either-way NamedOutcome (ltb out (length (imageFor xs))) tt tt))))
+named-placing : (xs : List ℕ) (out : ℕ) → NamedOutcome (placing xs out)
+named-placing xs out = either-way NamedOutcome (ltb out (length (imageFor xs))) tt tt
 
-write-told : (xs : List ℕ) (o : write.Outcome) → NamedOutcome o → countedPaper (countedOf (write.answer xs o)) ≡ write.answer xs o
-write-told xs (write.refused n p) h = tells-refusal write.values (refusal n p) h
-write-told xs write.unplaced h = tells-refusal write.values (refusal outputTooShort (length (imageFor xs))) (omega arith)
-write-told xs write.placed h = refl
+named-write : (xs : List ℕ) (work out : ℕ) → NamedOutcome (write.outcome xs work out)
+named-write xs work out = by (testOf xs) (test-named xs)
+  where
+    by : (t : Tested) → NamedTest t → NamedOutcome (write.onTests t xs work out)
+    by (tests.Refused r) h = h
+    by tests.Accepted h = either-way NamedOutcome (ltb work (workFor (length xs))) (omega arith) (named-placing xs out)
 
--- how a pair ends
-abbrev NamedEnd : pair.Outcome → Type 0
-NamedEnd (pair.stopped r) = 0 < r .number
-NamedEnd (pair.unplaced zs) = Unit {0}
-NamedEnd (pair.placed zs) = Unit {0}
+named-result : (zs : List ℕ) (steps work out : ℕ) → NamedOutcome (ofResult zs steps work out)
+named-result zs steps work out = by (roomOf (length zs) steps work) (room-named (length zs) steps work)
+  where
+    by : (m : Room) → NamedRoom m → NamedOutcome (onRoom m zs out)
+    by (rooms.Refused r) h = h
+    by rooms.Enough h = named-placing zs out
 
-named-result : (zs : List ℕ) (steps work out : ℕ) → NamedEnd (pair.onResult zs steps work out)
-named-result zs steps work out =
-    either-way NamedEnd (ltb mostSteps (length zs)) (omega arith)
-    (either-way NamedEnd (ltb steps (length zs)) (omega arith)
-    (either-way NamedEnd (ltb work (workFor (length zs))) (omega arith)
-    (either-way NamedEnd (ltb out (length (imageFor zs))) tt tt)))
+named-pair : (op : Operation) (v w : Verdict) (steps work out : ℕ) → NamedVerdict v → NamedVerdict w
+    → NamedOutcome (pair.onVerdicts op v w steps work out)
+named-pair op (refused r) w steps work out h k = h
+named-pair op (taken xs) (refused r) steps work out h k = k
+named-pair op (taken xs) (taken ys) steps work out h k = named-result (resultOf op xs ys) steps work out
 
-named-end : (op : Operation) (v w : Verdict) (steps work out : ℕ) → NamedVerdict v → NamedVerdict w
-    → NamedEnd (pair.onVerdicts op v w steps work out)
-named-end op (refused r) w steps work out h k = h
-named-end op (taken xs) (refused r) steps work out h k = k
-named-end op (taken xs) (taken ys) steps work out h k = named-result (resultOf op xs ys) steps work out
-
-pair-told : (o : pair.Outcome) → NamedEnd o → countedPaper (countedOf (pair.answer o)) ≡ pair.answer o
-pair-told (pair.stopped r) h = tells-refusal write.values r h
-pair-told (pair.unplaced zs) h = tells-refusal write.values (refusal outputTooShort (length (imageFor zs))) (omega arith)
-pair-told (pair.placed zs) h = refl
+outcome-told : (o : Outcome) → NamedOutcome o → countedPaper (countedOf (answer o)) ≡ answer o
+outcome-told (stopped r) h = tells-refusal values r h
+outcome-told (unplaced xs) h = tells-refusal values (refusal outputTooShort (length (imageFor xs))) (omega arith)
+outcome-told (placed xs) h = refl
 
 -- THE FIELDS TELL THE PROMISED ANSWER
 pub check-tells : (image : List ℕ) → checkedPaper (says.check image) ≡ read.checkPromise image
@@ -129,9 +127,9 @@ pub read-tells : (image steps : List ℕ) → checkedPaper (says.read image step
 read-tells image steps = read-told (length steps) (verdict image) (named-verdict image)
 
 pub write-tells : (list work out : List ℕ)
-    → countedPaper (says.write list work out .0) ≡ write.answer list (write.outcome list (length work) (length out))
+    → countedPaper (says.write list work out .0) ≡ answer (write.outcome list (length work) (length out))
 write-tells list work out =
-    write-told list (write.outcome list (length work) (length out)) (named-outcome list (length work) (length out))
+    outcome-told (write.outcome list (length work) (length out)) (named-write list (length work) (length out))
 
 pub rank-tells : (image : List ℕ) (k : ℕ) → rankedPaper (says.rank image k) ≡ rank.promised image k
 rank-tells image k = rank-told k (verdict image) (named-verdict image)
@@ -150,10 +148,10 @@ skip-tells at image bound = skip-told at bound (verdict image) (named-verdict im
 
 pub pair-tells : (op : Operation) (first second steps work out : List ℕ)
     → countedPaper (says.pair op first second steps work out .0)
-    ≡ pair.answer (pair.outcome op first second (length steps) (length work) (length out))
+    ≡ answer (pair.outcome op first second (length steps) (length work) (length out))
 pair-tells op first second steps work out =
-    pair-told (pair.outcome op first second (length steps) (length work) (length out))
-    (named-end op (verdict first) (verdict second) (length steps) (length work) (length out) (named-verdict first) (named-verdict second))
+    outcome-told (pair.outcome op first second (length steps) (length work) (length out))
+    (named-pair op (verdict first) (verdict second) (length steps) (length work) (length out) (named-verdict first) (named-verdict second))
 
 pub clock-of-tells : (step : ℕ) → clockPaper (says.clock-of step) ≡ clock.promised step
 clock-of-tells step =

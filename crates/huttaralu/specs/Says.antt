@@ -5,11 +5,13 @@ use Prim.Native.Nat.{ℕ}
 use lib.ListN.{length}
 use Rattle.clock.specs.Clock as clocks
 use Rattle.read.specs.Read as reads
+use Rattle.write.specs.Outcome.{Outcome, answer, workAfter, outAfter}
 use Rattle.write.specs.Promise as writes
 use Rattle.ask.specs.Rank as ranks
 use Rattle.ask.specs.First as firsts
 use Rattle.ask.specs.Cursor as cursors
 use Rattle.pair_operation.specs.declared.Operation.{Operation}
+use Rattle.outcome.specs.Result.{stepsAfter}
 use Rattle.pair.specs.Promise as pairs
 use Rattle.answers.specs.declared.Counted.{Counted}
 use Rattle.answers.specs.declared.Ranked.{Ranked}
@@ -26,11 +28,11 @@ abbrev pub read : List ℕ → List ℕ → Counted × List ℕ
 read image steps = (countedOf (reads.readPromise image steps), reads.readSteps image steps)
 
 -- the answer, the work area and the output
-abbrev pub written : List ℕ → List ℕ → List ℕ → writes.Outcome → Counted × List ℕ × List ℕ
-written list work out o = (countedOf (writes.answer list o), writes.workAfter list work o, writes.outAfter list out o)
+abbrev pub written : List ℕ → List ℕ → Outcome → Counted × List ℕ × List ℕ
+written work out o = (countedOf (answer o), workAfter work o, outAfter out o)
 
 abbrev pub write : List ℕ → List ℕ → List ℕ → Counted × List ℕ × List ℕ
-write list work out = written list work out (writes.outcome list (length work) (length out))
+write list work out = written work out (writes.outcome list (length work) (length out))
 
 abbrev pub rank : List ℕ → ℕ → Ranked
 rank image k = rankedOf (ranks.promised image k)
@@ -49,8 +51,8 @@ abbrev pub skip : ℕ → List ℕ → ℕ → Moved
 skip at image bound = movedOf (cursors.skipPromise at image bound)
 
 -- the answer, the step buffer, the work area and the output
-abbrev pub paired : List ℕ → List ℕ → List ℕ → pairs.Outcome → Counted × List ℕ × List ℕ × List ℕ
-paired steps work out o = (countedOf (pairs.answer o), pairs.stepsAfter steps o, pairs.workAfter work o, pairs.outAfter out o)
+abbrev pub paired : List ℕ → List ℕ → List ℕ → Outcome → Counted × List ℕ × List ℕ × List ℕ
+paired steps work out o = (countedOf (answer o), stepsAfter steps o, workAfter work o, outAfter out o)
 
 abbrev pub pair : Operation → List ℕ → List ℕ → List ℕ → List ℕ → List ℕ → Counted × List ℕ × List ℕ × List ℕ
 pair op first second steps work out =

@@ -12,7 +12,7 @@ use Rattle.lists.proofs.Bytes.{bytes-cons, bytes-append}
 use Rattle.lists.proofs.Parts.{drop-one, drop-run}
 use Rattle.rules.specs.Sizes.{numberSize, entrySize}
 use Rattle.rules.specs.Numbers.{numberAt, numberBytes}
-use Rattle.rules.proofs.Numbers.{length-little, bytes-little, number-lt, number-read, number-written}
+use Rattle.rules.proofs.Numbers.{length-little, bytes-little, number-read, number-written}
 use Rattle.image.specs.declared.Entry.{Entry}
 use Rattle.image.specs.Entry.{entryPlace, entryBytes, directoryBytes, entryAt, entriesAt, Narrow}
 
@@ -97,16 +97,6 @@ module _ (s : List ℕ) where
       ∙ ap (λ (l : List Entry). e ∷ l) (entries-read (at + entrySize) es rest (n .1) d)
 
   module _ (w : Bytes s) where
-    pub narrow-entry : (at : ℕ) → at + entrySize ≤ length s → Narrow (entryAt s at)
-    unfolding entryAt
-    narrow-entry at h =
-        record {
-          kind = w at;
-          last = number-lt s (at + 1) w (omega arith);
-          upto = number-lt s (at + 1 + numberSize) w (omega arith);
-          end = number-lt s (at + 1 + numberSize + numberSize) w (omega arith);
-        }
-
     -- AND WRITING WHAT WAS READ
     pub entry-written : (at : ℕ) → at + entrySize ≤ length s → drop at s ≡ entryBytes (entryAt s at) ++ drop (at + entrySize) s
     unfolding entryAt

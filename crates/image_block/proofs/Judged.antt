@@ -20,7 +20,8 @@ use Rattle.image.specs.declared.Before.{Before}
 use Rattle.image.specs.Block.{Found, steps, wrong, inCodes, inRow, judged, blockOf}
 use Rattle.image.proofs.Found.{row-unsized, row-past, row-within, judged-wrong}
 use Rattle.image.proofs.Blocks.{block-codes, block-row}
-use Rattle.image_block.specs.Block.{numberOf, judgedNumber}
+use Rattle.image_block.specs.Block.{numberOf}
+use Rattle.image_block.specs.Inside.Judged.{judgedNumber}
 
 module _ (b : Before) (e : Entry) where
   number-judged : (xs : List ℕ) → numberOf (judged b e (steps xs)) ≡ judgedNumber b e (length xs) (beyond (b .next) xs)

@@ -1,13 +1,10 @@
 -- One block in its own part of the payload: the number of its refusal, its steps where it has none, and what is asked of it.
 use mathlib.Core.Path.{_≡_}
 use mathlib.Core.List.{List}
-use Prim.Native.Nat.{ℕ, _+_, _-_, _^_, _≤_, _<_}
-use lib.Dec.{eqb}
+use Prim.Native.Nat.{ℕ, _-_, _^_, _≤_, _<_}
 use lib.ListN.{length, getD}
-use Rattle.lists.specs.Choice.{pick}
 use Rattle.lists.specs.Below.{below}
 use Rattle.rules.specs.Limits.{largestStep}
-use Rattle.rules.specs.Refusals.{wrongCount, wrongLast}
 use Rattle.image.specs.declared.Entry.{Entry}
 use Rattle.image.specs.declared.Before.{Before}
 use Rattle.image.specs.Block.{Found, steps, wrong, blockOf}
@@ -40,7 +37,3 @@ pub record FirstIn (b : Before) (e : Entry) (part : List ℕ) (x step index : �
   pub is : step ≡ getD (stepsIn b e part) index 0
   pub within : index < e .upto - b .upto
   pub small : step ≤ e .last
-
--- 8 and 9 by how many steps a block has and by one past the last of them
-abbrev pub judgedNumber : Before → Entry → ℕ → ℕ → ℕ
-judgedNumber b e count next = pick (eqb count (e .upto - b .upto)) (pick (eqb next (e .last + 1)) 0 wrongLast) wrongCount

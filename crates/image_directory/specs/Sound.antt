@@ -1,7 +1,7 @@
 -- A directory that was tested.
 use mathlib.Core.Path.{_≡_}
 use mathlib.Core.List.{List}
-use Prim.Native.Nat.{ℕ, _+_, _^_, _≤_, _<_}
+use Prim.Native.Nat.{ℕ, _^_, _≤_, _<_}
 use lib.ListN.{length}
 use Rattle.image.specs.declared.Fault.the-variants.{Fine}
 use Rattle.image.specs.Entry.{entryPlace, entriesAt, start}

@@ -60,7 +60,7 @@ fn fault_of(p: usize, b: Before, e: Entry) -> u32
 
 // The entry with a number.
 pub fn entry(image: &[u8], i: usize) -> Entry
-    requires { ⌜ (i < 2 ^ 32) × (entryPlace i + entrySize ≤ length (now image)) ⌝ }
+    requires { ⌜ entryPlace i + entrySize ≤ length (now image) ⌝ }
     ensures { λ r. ⌜ (r ≡ entryAt (now (image .entry)) (entryPlace i)) × Narrow r ⌝ }
 {
     image::entry_at(image, rules::NUMBER_SIZE + rules::ENTRY_SIZE * i)
@@ -68,7 +68,7 @@ pub fn entry(image: &[u8], i: usize) -> Entry
 
 // What stands before the block with a number.
 pub fn before(image: &[u8], i: usize) -> Before
-    requires { ⌜ (i < 2 ^ 32) × (entryPlace i ≤ length (now image)) ⌝ }
+    requires { ⌜ entryPlace i ≤ length (now image) ⌝ }
     ensures { λ r. ⌜ r ≡ beforeAt (now (image .entry)) i ⌝ }
 {
     if i == 0 {

@@ -20,8 +20,10 @@ use Rattle.codes.proofs.Codes.{values-back, bad-all, values-sound, steps-bad, s
 use Rattle.image_walk.specs.declared.Walk.{Walk}
 use Rattle.image_walk.specs.declared.Rest.{Rest}
 use Rattle.image_walk.specs.Walk.{codesIn, Whole, here, Open}
-use Rattle.image_walk.specs.Turns.{codedWalk, Readable, Met}
+use Rattle.image_walk.specs.Turns.{codedWalk, Readable}
+use Rattle.image_walk.specs.Inside.Moves.{Met}
 use Rattle.image_walk.proofs.Shapes.{here-codes, left-codes, beyond-first}
+use Rattle.image_walk.proofs.Standing.{coded-open}
 
 -- codes that are good from a place on are good as a part of their own
 steps-drop : (o : ℕ) (s : List ℕ) (n : ℕ) (xs : List ℕ) → Bytes s → stepsFrom o s n ≡ all xs → stepsFrom o (drop n s) 0 ≡ all xs
@@ -76,18 +78,12 @@ module _ {o : ℕ} {pay : List ℕ} {at end x n : ℕ} (f : Opening o pay at end
   pub coded-is : codesIn o pay at end ≡ (o + x) ∷ here pay (codedWalk (o + x) (at + n) end block)
   coded-is = f .is ∙ ap (λ (l : List ℕ). (o + x) ∷ l) (sym (here-codes pay (codedWalk (o + x) (at + n) end block) refl))
 
-  pub coded-open : length pay < 2 ^ 32 → end ≤ length pay → beyond o (codesIn o pay at end) ≤ noStep
+  pub opened : length pay < 2 ^ 32 → end ≤ length pay → beyond o (codesIn o pay at end) ≤ noStep
       → Open pay (codedWalk (o + x) (at + n) end block)
-  coded-open few within small =
+  opened few within small =
       let v : Walk = codedWalk (o + x) (at + n) end block in
-      record {
-        small = omega (arith, beyond-first o (o + x) (codesIn o pay at end) (here pay v) coded-is);
-        few = few;
-        within = within;
-        low = omega arith;
-        codes = λ c. f .whole;
-        row = λ c. absurd (c refl);
-      }
+      coded-open pay (at + n) end block few within (o + x) (omega (arith, beyond-first o (o + x) (codesIn o pay at end) (here pay v) coded-is))
+      (f .whole)
 
 -- what is left of a block of codes
 module _ (pay : List ℕ) (p : Rest) (r : Readable pay p) (k : p .kind ≡ 0) (h : p .at < p .end) where
@@ -100,7 +96,7 @@ module _ (pay : List ℕ) (p : Rest) (r : Readable pay p) (k : p .kind ≡ 0) (h
           block = refl;
           end = refl;
           is = l ∙ coded-is f (p .block);
-          stands = coded-open f (p .block) (r .few) (r .within) (omega (arith, r .small, ap (beyond (p .next)) l));
+          stands = opened f (p .block) (r .few) (r .within) (omega (arith, r .small, ap (beyond (p .next)) l));
         },
         f .within,
       )

@@ -28,7 +28,8 @@ use Rattle.image.specs.Taken.{listIn}
 use Rattle.image_walk.specs.declared.Rest.{Rest}
 use Rattle.image_walk.specs.Blocks.{entriesFrom, blocksFrom, later, Blocks}
 use Rattle.image_walk.specs.Walk.{rowIn}
-use Rattle.image_walk.specs.Turns.{left, Readable, Left, onward, Current}
+use Rattle.image_walk.specs.Turns.{left, Readable, Left, onward}
+use Rattle.image_walk.specs.Inside.Moves.{Current}
 use Rattle.image_walk.proofs.Shapes.{left-codes, left-row, left-none, by-kind}
 
 -- what is left at the front of the next block, whose entry is `e`

@@ -20,8 +20,10 @@ use Rattle.row.proofs.Words.{row-words}
 use Rattle.image_walk.specs.declared.Walk.{Walk}
 use Rattle.image_walk.specs.declared.Rest.{Rest}
 use Rattle.image_walk.specs.Walk.{rowIn, others, here}
-use Rattle.image_walk.specs.Turns.{left, metWalk, Readable, Met}
+use Rattle.image_walk.specs.Turns.{left, metWalk, Readable}
+use Rattle.image_walk.specs.Inside.Moves.{Met}
 use Rattle.image_walk.proofs.Shapes.{row-in-none, here-row, left-row, beyond-first}
+use Rattle.image_walk.proofs.Standing.{met-open}
 
 -- ---- one word
 
@@ -93,14 +95,8 @@ module _ (pay : List ℕ) (p : Rest) (r : Readable pay p) (k : p .kind ≡ 0 →
           end = refl;
           is = is;
           stands =
-              record {
-                small = omega (arith, r .small);
-                few = r .few;
-                within = r .within;
-                low = omega arith;
-                codes = λ c. absurd (z c);
-                row = λ c. record { lowest = refl; tight = λ g. omega (arith, r .tight k h, s .place) };
-              };
+              met-open pay (at + wordBytes) (p .end) (p .block) (r .few) (r .within) low bits z (omega (arith, r .small))
+              (λ g. omega (arith, r .tight k h, s .place));
         }
 
 pub seeking-start : (pay : List ℕ) (p : Rest) (v : ℕ) → p .at < p .end → v ≡ little (take wordBytes (part pay (p .at) (p .end)))

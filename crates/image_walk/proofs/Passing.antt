@@ -25,9 +25,11 @@ use Rattle.image_walk.specs.declared.Walk.{Walk}
 use Rattle.image_walk.specs.declared.Move.the-variants.{To, Out}
 use Rattle.image_walk.specs.Blocks.{later}
 use Rattle.image_walk.specs.Walk.{codesIn, rowIn, others, here, Open, Placed, Stands, Follows}
-use Rattle.image_walk.specs.Turns.{metWalk, codedWalk, left, restOf, Left, Turned, Slid, bitMove, Moves}
+use Rattle.image_walk.specs.Turns.{metWalk, codedWalk, left, Left, Turned}
+use Rattle.image_walk.specs.Inside.Moves.{restOf, Slid, bitMove, Moves}
 use Rattle.image_walk.proofs.Shapes.{here-codes, here-row, left-codes, left-row, first-below, beyond-first, ahead-step}
-use Rattle.image_walk.proofs.Coding.{opening, coded-is, coded-open}
+use Rattle.image_walk.proofs.Coding.{opening, coded-is, opened}
+use Rattle.image_walk.proofs.Standing.{met-placed, coded-open}
 
 -- ---- within the loaded word
 
@@ -56,7 +58,6 @@ module _ (pay : List ℕ) (w : Walk) (p : Placed pay w) (b : w .bits ≡ 0 → �
       let n : ℕ = others (w .bits) in
       let v : Walk = metWalk (w .low) n (w .at) (w .end) (w .block) in
       let o = p .on on-step in
-      let l = o .row b in
       let rest : List ℕ = rowIn (w .low + wordBits) pay (w .at) (w .end) in
       let is : here pay w ≡ v .step ∷ here pay v =
       here-row pay w b
@@ -67,25 +68,11 @@ module _ (pay : List ℕ) (w : Walk) (p : Placed pay w) (b : w .bits ≡ 0 → �
       rw (here-row pay w b) (rising-bits-on wordBits (w .low) n rest (rising-row (w .low + wordBits) (part pay (w .at) (w .end))))
       in
       let h : v .step < noStep = first-below (w .step + 1) (w .low) (v .step) (here pay w) (here pay v) noStep up is (o .small) in
-      let q : beyond (v .step + 1) (here pay v) ≡ beyond (w .step + 1) (here pay w) = beyond-first (w .step + 1) (v .step) (here pay w) (here pay v) is in
       record {
         block = refl;
         end = refl;
         placed =
-            record {
-              step = omega arith;
-              on =
-                  λ g.
-                  record {
-                    small = omega (arith, o .small);
-                    few = o .few;
-                    within = o .within;
-                    low = omega arith;
-                    codes = λ c. absurd (z c);
-                    row = λ c. record { lowest = refl; tight = λ k. omega (arith, l .tight k) };
-                  };
-              off = λ g. absurd (omega arith);
-            };
+            met-placed o b n z h (beyond-first (w .step + 1) (v .step) (here pay w) (here pay v) is);
         on = h;
         is = is;
       }
@@ -127,7 +114,7 @@ module _ (pay : List ℕ) (w : Walk) (p : Placed pay w) (b : w .bits ≡ 0) wher
           placed =
               record {
                 step = omega arith;
-                on = λ g. coded-open f (w .block) (o .few) (o .within) small;
+                on = λ g. opened f (w .block) (o .few) (o .within) small;
                 off = λ g. absurd (omega arith);
               };
           on = k;
@@ -144,14 +131,7 @@ module _ (pay : List ℕ) (w : Walk) (p : Placed pay w) (b : w .bits ≡ 0) wher
             step = p .step;
             on =
                 λ g.
-                record {
-                  small = omega (arith, o .small, ap (beyond (w .step + 1)) is);
-                  few = o .few;
-                  within = o .within;
-                  low = omega arith;
-                  codes = λ c. o .codes b;
-                  row = λ c. absurd (c refl);
-                };
+                coded-open pay (w .at) (w .end) (w .block) (o .few) (o .within) (w .step) (omega (arith, o .small, ap (beyond (w .step + 1)) is)) (o .codes b);
             off = λ g. absurd (omega (arith, p .off g .at));
           },
           is,

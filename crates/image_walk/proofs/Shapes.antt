@@ -23,7 +23,8 @@ use Rattle.image_walk.specs.declared.Walk.{Walk}
 use Rattle.image_walk.specs.declared.Rest.{Rest}
 use Rattle.image_walk.specs.Blocks.{later}
 use Rattle.image_walk.specs.Walk.{codesIn, rowIn, others, here, ahead}
-use Rattle.image_walk.specs.Turns.{left, Readable, Met}
+use Rattle.image_walk.specs.Turns.{left, Readable}
+use Rattle.image_walk.specs.Inside.Moves.{Met}
 
 -- ---- a part that is read to its end
 

@@ -20,7 +20,8 @@ use Rattle.image_walk.specs.declared.Walk.{Walk}
 use Rattle.image_walk.specs.declared.Rest.{Rest}
 use Rattle.image_walk.specs.Blocks.{blocksFrom, later, Blocks}
 use Rattle.image_walk.specs.Walk.{here}
-use Rattle.image_walk.specs.Turns.{left, codedWalk, Left, onward, Current, Met, Turned}
+use Rattle.image_walk.specs.Turns.{left, codedWalk, Left, onward, Turned}
+use Rattle.image_walk.specs.Inside.Moves.{Current, Met}
 use Rattle.image_walk.proofs.Shapes.{whole-none, left-none, met-step, beyond-first, ahead-step, ahead-none}
 
 module _ {s pay : List ℕ} {p q : Rest} (c : Current s pay p q) where
@@ -61,9 +62,6 @@ module _ {s pay : List ℕ} {p q : Rest} (c : Current s pay p q) where
       }
 
 -- ---- the start
-
-pub taken-size : (s : List ℕ) → Taken s → payloadPlace (numberAt s 0) ≤ length s
-taken-size s t = let x = peel s (stepsOf s) t in omega (arith, x .size, x .is-m)
 
 -- nothing is read yet, and the first block is the next
 abbrev pub startRest : Rest

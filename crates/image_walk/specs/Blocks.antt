@@ -1,7 +1,7 @@
 -- What a walk goes along: an accepted image, its payload, and its blocks by their numbers.
 use mathlib.Core.Path.{_≡_}
 use mathlib.Core.List.{List}
-use Prim.Native.Nat.{ℕ, _+_, _-_, _^_, _≤_, _<_}
+use Prim.Native.Nat.{ℕ, _-_, _^_, _≤_, _<_}
 use lib.ListN.{length}
 use Rattle.rules.specs.Numbers.{numberAt}
 use Rattle.image.specs.declared.Entry.{Entry}

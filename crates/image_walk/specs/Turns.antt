@@ -1,7 +1,6 @@
--- What the functions below `next` promise each other: a move within the loaded word or to a code of one byte, and the turn that reads on
--- where no such move is left.
+-- What a walk has left when its word, or its code, is passed, and the turn that reads on there.
 use mathlib.Core.Path.{_≡_}
-use mathlib.Core.List.{List, [], _∷_, _++_}
+use mathlib.Core.List.{List, _++_}
 use Prim.Native.Nat.{ℕ, _+_, _-_, _*_, _^_, _≤_, _<_}
 use lib.Count.{trailingZeros}
 use lib.Dec.{eqb}
@@ -14,10 +13,8 @@ use Rattle.row.specs.Words.{wordBits}
 use Rattle.image.specs.Entry.{beforeAt}
 use Rattle.image_walk.specs.declared.Walk.{Walk}
 use Rattle.image_walk.specs.declared.Rest.{Rest}
-use Rattle.image_walk.specs.declared.Move.{Move}
-use Rattle.image_walk.specs.declared.Move.the-variants.{To, Out}
 use Rattle.image_walk.specs.Blocks.{later, Blocks}
-use Rattle.image_walk.specs.Walk.{codesIn, Whole, rowIn, others, here, ahead, Open, Placed, Stands}
+use Rattle.image_walk.specs.Walk.{codesIn, Whole, rowIn, ahead, Stands}
 
 -- the walk at the lowest one of a word, and the walk at a step among codes
 abbrev pub metWalk : ℕ → ℕ → ℕ → ℕ → ℕ → Walk
@@ -30,10 +27,6 @@ codedWalk step at end block = record { step = step; low = step; bits = 0; at = a
 -- the steps of what is left of the open block
 unfoldable pub left : List ℕ → Rest → List ℕ
 left pay p = pick (eqb (p .kind) 0) (codesIn (p .next) pay (p .at) (p .end)) (rowIn (p .from) pay (p .at) (p .end))
-
--- what a walk has left when its word, or its code, is passed
-abbrev pub restOf : Walk → Rest
-restOf w = record { next = w .step + 1; from = w .low + wordBits; kind = w .bits; at = w .at; end = w .end; block = w .block }
 
 -- what is left of the open block can be read
 pub record Readable (pay : List ℕ) (p : Rest) : Type 0 where
@@ -54,37 +47,7 @@ pub record Left (s pay : List ℕ) (p : Rest) : Type 0 where
 abbrev pub onward : List ℕ → List ℕ → Rest → List ℕ
 onward s pay p = left pay p ++ later s pay (p .block)
 
--- something is left of the open block of `q`, which has the steps of `p`; or nothing is left at all
-pub record Current (s pay : List ℕ) (p q : Rest) : Type 0 where
-  pub left : Left s pay q
-  pub same : onward s pay p ≡ onward s pay q
-  pub none : q .end ≤ q .at → onward s pay q ≡ []
-
--- the walk `r` stands at the first step of what is left of the open block
-pub record Met (pay : List ℕ) (p : Rest) (r : Walk) : Type 0 where
-  pub block : r .block ≡ p .block
-  pub end : r .end ≡ p .end
-  pub is : left pay p ≡ r .step ∷ here pay r
-  pub stands : Open pay r
-
 -- the walk `r` stands at the first of the steps that were ahead
 pub record Turned (s pay : List ℕ) (p : Rest) (r : Walk) : Type 0 where
   pub stands : Stands s pay r
   pub is : ahead s pay r ≡ onward s pay p
-
--- the walk `v` stands at the step after that of `w`, in the open block
-pub record Slid (pay : List ℕ) (w v : Walk) : Type 0 where
-  pub block : v .block ≡ w .block
-  pub end : v .end ≡ w .end
-  pub placed : Placed pay v
-  pub on : v .step < noStep
-  pub is : here pay w ≡ v .step ∷ here pay v
-
--- a move within the loaded word: out of it where no one is left
-abbrev pub bitMove : Walk → Move
-bitMove w = pick (eqb (others (w .bits)) 0) Out (To (metWalk (w .low) (others (w .bits)) (w .at) (w .end) (w .block)))
-
--- a move: to a walk, or out of what is loaded
-abbrev pub Moves : List ℕ → Walk → Move → Type 0
-Moves pay w (To v) = Slid pay w v
-Moves pay w Out = here pay w ≡ left pay (restOf w)

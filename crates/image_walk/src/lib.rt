@@ -10,8 +10,11 @@ ghost use Prim.Native.Nat.{_^_, _<_};
 ghost use Rattle.rules.specs.Limits.{noStep};
 ghost use Rattle.image.specs.Taken.{stepsOf, Taken, payloadIn};
 ghost use Rattle.image_walk.specs.Walk.{ahead, Placed, Stands, Follows};
-ghost use Rattle.image_walk.specs.Turns.{metWalk, codedWalk, restOf, Readable, Left, Current, Met, Turned, bitMove, Moves};
+ghost use Rattle.image_walk.specs.Turns.{metWalk, codedWalk, Readable, Left, Turned};
+ghost use Rattle.image_walk.specs.Inside.Moves.{restOf, Current, Met, bitMove, Moves};
 use code::Reading;
+use row::WORD_BITS;
+use row::WORD_BYTES;
 
 // Where a walk stands.
 pub struct Walk {
@@ -43,12 +46,6 @@ enum Move {
     To(Walk),
     Out,
 }
-
-const CODES: usize = 0;
-
-const WORD_BYTES: usize = 8;
-
-const WORD_BITS: usize = 64;
 
 // The walk at the lowest one of a word.
 pub fn met(low: usize, bits: usize, at: usize, end: usize, block: usize) -> Walk
@@ -115,7 +112,7 @@ fn inside(p: Rest, payload: &[u8]) -> Walk
     requires { ⌜ Readable (now payload) p × (p .at < p .end) ⌝ }
     ensures { λ r. ⌜ Met (now (payload .entry)) p r ⌝ }
 {
-    if p.kind == CODES {
+    if p.kind == rules::CODES {
         return in_codes(p, payload);
     }
     in_row(p, payload)
@@ -132,7 +129,7 @@ fn current<'a>(p: Rest, image: &'a [u8], payload: &'a [u8]) -> Rest
     if p.end == payload.len() {
         return p;
     }
-    let e = image::entry_at(image, rules::NUMBER_SIZE + rules::ENTRY_SIZE * p.block);
+    let e = image_directory::entry(image, p.block);
     Rest {
         next: p.next,
         from: p.next,
@@ -152,18 +149,7 @@ pub fn turned<'a>(p: Rest, image: &'a [u8], payload: &'a [u8]) -> Walk
     if q.at < q.end {
         return inside(q, payload);
     }
-    coded((rules::largest_step() as usize) + 1, q.at, q.end, q.block)
-}
-
-// The payload of an accepted image.
-pub fn payload(image: &[u8]) -> &[u8]
-    requires { ⌜ Taken (now image) ⌝ }
-    ensures { λ r. ⌜ now r ≡ payloadIn (now (image .entry)) ⌝ }
-{
-    let from = rules::NUMBER_SIZE
-        + rules::ENTRY_SIZE * rules::number_at(image, 0)
-        + rules::NUMBER_SIZE;
-    &image[from..]
+    coded(rules::no_step(), q.at, q.end, q.block)
 }
 
 // The walk at the first step of an accepted image.
@@ -176,7 +162,7 @@ pub fn first<'a>(image: &'a [u8], payload: &'a [u8]) -> Walk
         Rest {
             next: 0,
             from: 0,
-            kind: CODES,
+            kind: rules::CODES,
             at: 0,
             end: 0,
             block: 0,

@@ -7,6 +7,7 @@ use Prim.Native.Nat.{ℕ, zero, suc, _+_, _≤_, _<_}
 use native.Mathlib.Omega.{arith}
 use lib.ListN.{length, getD, drop, set, length-set, length-append}
 use lib.Seq.{sets, length-sets, sets-eq, set-comm, set-set, set-getD, getD-set-same, getD-set-other}
+use Rattle.lists.specs.Stores.{Puts}
 
 pub sets-append : (l : List ℕ) (at : ℕ) (us vs : List ℕ) → sets l at (us ++ vs) ≡ sets (sets l at us) (at + length us) vs
 sets-append l at [] vs = let z : at ≡ at + 0 = omega arith in ap (λ (k : ℕ). sets l k vs) z
@@ -121,5 +122,5 @@ module _ {out₀ : List ℕ} {at : ℕ} {vs out : List ℕ} {p : ℕ} {ws : List
   pub storing-same : {rest : List ℕ} → ws ≡ rest → Storing out₀ at vs out p rest
   storing-same {rest} e = storing-run [] rest e (omega arith) refl
 
-  pub storing-end : ws ≡ [] → (p ≡ at + length vs) × (out ≡ sets out₀ at vs)
-  storing-end e = (omega (arith, s .place, ap length e), ap (sets out p) (sym e) ∙ s .stores)
+  pub storing-end : ws ≡ [] → Puts out₀ at vs out p
+  storing-end e = record { place = omega (arith, s .place, ap length e); stores = ap (sets out p) (sym e) ∙ s .stores }

@@ -20,7 +20,7 @@ use Rattle.pair_operation.proofs.Result.{result-listed, has-result}
 
 -- the result of a link is one of document 01's lists
 pub link-listed : {op : Operation} {c d b : List ℕ} (l : Link op c d b) → Listed (resultOf op (l .first) (l .second))
-link-listed {op} l = result-listed op (l .one .listed) (l .other .listed) (l .few)
+link-listed {op} l = result-listed op (l .first-accepted .listed) (l .second-accepted .listed) (l .few)
 
 -- what a thing ends in: an accepted image of the list that has what the thing means
 pub record Ended (t : Thing) (b : List ℕ) : Type 0 where
@@ -30,13 +30,13 @@ pub record Ended (t : Thing) (b : List ℕ) : Type 0 where
 
 linked : (op : Operation) (t u : Thing) (b : List ℕ) (c d : List ℕ) → Ended t c → Ended u d → Link op c d b → Ended (made op t u) b
 linked op t u b c d e f l =
-    let p : l .first ≡ e .list = accepted-one (l .one) (e .image) in
-    let q : l .second ≡ f .list = accepted-one (l .other) (f .image) in
+    let p : l .first ≡ e .list = accepted-one (l .first-accepted) (e .image) in
+    let q : l .second ≡ f .list = accepted-one (l .second-accepted) (f .image) in
     record {
       list = resultOf op (l .first) (l .second);
       image = written-accepted (l .written) (link-listed l);
       members = λ z.
-          has-result op (l .first) (l .second) (l .one .listed .rising) (l .other .listed .rising) z
+          has-result op (l .first) (l .second) (l .first-accepted .listed .rising) (l .second-accepted .listed .rising) z
           ∙ ap (λ (xs : List ℕ). keeps op (has z xs) (has z (l .second))) p
           ∙ ap (λ (ys : List ℕ). keeps op (has z (e .list)) (has z ys)) q
           ∙ ap (λ (m : Bool). keeps op m (has z (f .list))) (e .members z)

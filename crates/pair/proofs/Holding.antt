@@ -10,7 +10,7 @@ use Rattle.image.specs.Taken.{stepsOf}
 use Rattle.pair_operation.specs.declared.Operation.{Operation}
 use Rattle.pair_operation.specs.Result.{resultOf}
 use Rattle.pair_thin.specs.Counts.{Counts}
-use Rattle.pair.specs.Room.{Held}
+use Rattle.pair.specs.Inside.Room.{Held}
 
 none : (xs : List ℕ) → length xs ≤ 0 → xs ≡ []
 none [] h = refl

@@ -13,20 +13,21 @@ use Rattle.image.specs.Verdict.{Verdict, taken, refused, verdict}
 use Rattle.image.proofs.Accepted.{verdict-accepted}
 use Rattle.write.specs.declared.Counted.the-variants.{Accepted}
 use Rattle.write.specs.Written.{Written, imageFor}
-use Rattle.write.specs.Promise.{values, paperOf}
+use Rattle.write.specs.Outcome.{values, paperOf, Outcome, stopped, placed, answer, outAfter}
 use Rattle.write.proofs.Written.{written-some}
+use Rattle.outcome.specs.Result.{ofResult}
+use Rattle.outcome.proofs.Results.{accepted-placed}
 use Rattle.pair_operation.specs.declared.Operation.{Operation}
 use Rattle.pair_operation.specs.Result.{resultOf}
-use Rattle.pair.specs.Promise.{Outcome, stopped, placed, onResult, onVerdicts, outcome, answer, outAfter, Promise}
+use Rattle.pair.specs.Promise.{onVerdicts, outcome, Promise}
 use Rattle.pair.specs.Chain.{Link}
-use Rattle.pair.proofs.Outcomes.{accepted-placed}
 
 -- a refusal does not accept
 not-stopped : {X : Type 0} {n k : ℕ} {o : Outcome} {r : Refusal} → paperOf (Accepted n k) ≡ answer o → o ≡ stopped r → X
 not-stopped a e = paper-apart values (a ∙ ap answer e)
 
 -- WHERE AN OPERATION ACCEPTS, WHAT IT LEAVES IS A LINK
-module _ {op : Operation} {first second steps work out : List ℕ} {n k : ℕ} {steps′ work′ out′ : List ℕ} (u : Bytes first) (v : Bytes second)
+module _ (op : Operation) (first second : List ℕ) {steps work out : List ℕ} {n k : ℕ} {steps′ work′ out′ : List ℕ} (u : Bytes first) (v : Bytes second)
     (p : Promise op first second steps work out (Accepted n k) steps′ work′ out′) where
   placed-image : (zs : List ℕ) → outcome op first second (length steps) (length work) (length out) ≡ placed zs → take k out′ ≡ imageFor zs
   placed-image zs e =
@@ -37,7 +38,7 @@ module _ {op : Operation} {first second steps work out : List ℕ} {n k : ℕ} {
 
   link-of : (xs ys : List ℕ) → verdict first ≡ taken xs → verdict second ≡ taken ys → Link op first second (take k out′)
   link-of xs ys f s =
-      let e : outcome op first second (length steps) (length work) (length out) ≡ onResult (resultOf op xs ys) (length steps) (length work) (length out) =
+      let e : outcome op first second (length steps) (length work) (length out) ≡ ofResult (resultOf op xs ys) (length steps) (length work) (length out) =
       ap (λ (x : Verdict). onVerdicts op x (verdict second) (length steps) (length work) (length out)) f
       ∙ ap (λ (x : Verdict). onVerdicts op (taken xs) x (length steps) (length work) (length out)) s
       in
@@ -45,9 +46,9 @@ module _ {op : Operation} {first second steps work out : List ℕ} {n k : ℕ} {
       record {
         first = xs;
         second = ys;
-        one = verdict-accepted first xs u .0 f;
-        other = verdict-accepted second ys v .0 s;
-        few = m .few;
+        first-accepted = verdict-accepted first xs u .0 f;
+        second-accepted = verdict-accepted second ys v .0 s;
+        few = m .room .few;
         written = subst (Written (resultOf op xs ys)) (sym (placed-image (resultOf op xs ys) (e ∙ m .is))) (written-some (resultOf op xs ys));
       }
 

@@ -26,8 +26,8 @@ means (made op t u) z = keeps op (means t z) (means u z)
 pub record Link (op : Operation) (c d b : List ℕ) : Type 0 where
   pub first : List ℕ
   pub second : List ℕ
-  pub one : Accepted c first
-  pub other : Accepted d second
+  pub first-accepted : Accepted c first
+  pub second-accepted : Accepted d second
   pub few : length (resultOf op first second) ≤ mostSteps
   pub written : Written (resultOf op first second) b
 

@@ -1,3 +1,3 @@
 pub mod Promise
-pub mod Room
 pub mod Chain
+pub mod Inside

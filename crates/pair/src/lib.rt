@@ -5,7 +5,7 @@
 
 ghost use mathlib.Core.Path.{_≡_};
 ghost use mathlib.Core.List.{_++_};
-ghost use Prim.Native.Nat.{_+_, _*_, _≤_, _<_};
+ghost use Prim.Native.Nat.{_+_, _≤_, _<_};
 ghost use lib.ListN.{length, drop};
 ghost use Rattle.rules.specs.Refusals.{onSide};
 ghost use Rattle.image.specs.Taken.{stepsOf, Taken};
@@ -13,17 +13,20 @@ ghost use Rattle.write.specs.declared.Counted.the-variants.{Refused};
 ghost use Rattle.pair_operation.specs.declared.Operation.the-variants.{Both, Either, Without};
 ghost use Rattle.pair_operation.specs.Result.{resultOf};
 ghost use Rattle.pair.specs.Promise.{Promise};
-ghost use Rattle.pair.specs.Room.{Roomy, Held};
+ghost use Rattle.pair.specs.Inside.Room.{Ready, Held};
+use outcome::Room;
 use pair_operation::Operation;
 use read::Checked;
 use rules::Refusal;
 use write::Counted;
 
+// Document 01: the sides of a pair.
 const FIRST_SIDE: u32 = 1;
 
 const SECOND_SIDE: u32 = 2;
 
 // With more places to a step than this, it is faster to merge than to go by windows: in counting, and in storing what an operation keeps.
+// Free: measured; no proof depends on them but that they are above 0.
 const THIN_TO_COUNT: usize = 40;
 
 const THIN_FOR_BOTH: usize = 64;
@@ -32,7 +35,7 @@ const THIN_FOR_EITHER: usize = 12;
 
 const THIN_FOR_WITHOUT: usize = 24;
 
-// The numbers of the buffer in which a merge that counts keeps its result.
+// The numbers of the buffer in which a merge that counts keeps its result. Free: measured; no proof depends on it.
 const FEW: usize = 2048;
 
 // The last step of an accepted image, and 0 where it has none.
@@ -43,7 +46,7 @@ fn last_step(image: &[u8]) -> usize
     if blocks == 0 {
         return 0;
     }
-    let e = image::entry_at(image, rules::NUMBER_SIZE + rules::ENTRY_SIZE * (blocks - 1));
+    let e = image_directory::entry(image, blocks - 1);
     e.last
 }
 
@@ -130,13 +133,13 @@ fn stored<'a>(
     work: &mut [u32],
     out: &mut [u8],
 ) -> Counted
-    requires { ⌜ Roomy op (now first) (now second) (length (now steps)) (length (now work)) ⌝ }
+    requires { ⌜ Ready op (now first) (now second) (length (now steps)) (length (now work)) ⌝ }
     requires { ⌜ Held op (now first) (now second) n (now few) ⌝ }
     ensures { λ r. ⌜ Promise op (now (first .entry)) (now (second .entry)) (now (steps .entry)) (now (work .entry)) (now (out .entry)) r
         (now (steps .exit)) (now (work .exit)) (now (out .exit)) ⌝ }
 {
     let k = store(op, all, n, first, second, few, steps);
-    write::write_listed(&steps[..k], work, out)
+    outcome::write_front(steps, k, work, out)
 }
 
 // Counts the result of two images of `all` steps together, and stores and writes it unless something is too short; by a buffer for the steps
@@ -156,17 +159,11 @@ fn counted_with<'a>(
         (now (steps .exit)) (now (work .exit)) (now (out .exit)) ⌝ }
 {
     let n = count(op, first, second, few);
-    if n > rules::most_steps() {
-        return write::refuse(rules::TOO_MANY_STEPS, 0);
+    let room = outcome::room_for(n, steps.len(), work.len());
+    match room {
+        Room::Refused(r) => Counted::Refused(r),
+        Room::Enough => stored(op, all, n, first, second, few, steps, work, out),
     }
-    if steps.len() < n {
-        return write::refuse(rules::STEPS_TOO_SHORT, n);
-    }
-    let need = rules::work_for(n);
-    if work.len() < need {
-        return write::refuse(rules::WORK_TOO_SHORT, need);
-    }
-    stored(op, all, n, first, second, few, steps, work, out)
 }
 
 // Counts the result of two images of `all` steps together, and stores and writes it unless something is too short.

@@ -19,13 +19,10 @@ use Rattle.pair_operation.specs.Result.{resultOf}
 use Rattle.pair_operation.specs.Merge.{headOf}
 use Rattle.pair_operation.proofs.Result.{length-result}
 use Rattle.pair_operation.proofs.Merging.{Below, merge-end}
+use Rattle.pair_dense.specs.declared.Walks.{Walks}
+use Rattle.pair_dense.specs.Inside.Walks.{Along, Together, resultAhead, Begins}
 
 -- ---- one walk
-
--- a walk that has no step below `o` ahead
-pub record Along (o : ℕ) (s pay : List ℕ) (w : Walk) : Type 0 where
-  pub stands : Stands s pay w
-  pub below : Below o noStep (ahead s pay w)
 
 pub along-first : (s pay : List ℕ) (w : Walk) → Bytes s → Taken s → Stands s pay w × (ahead s pay w ≡ stepsOf s) → Along 0 s pay w
 along-first s pay w b t e =
@@ -41,47 +38,31 @@ module _ (s pay : List ℕ) (w : Walk) where
 
 -- ---- two walks
 
--- the walks `a` over `s` and `b` over `t`, and the lower of their steps
-pub record Together (s pay t tail : List ℕ) (a b : Walk) (x : ℕ) : Type 0 where
-  pub from : ℕ
-  pub one : Along from s pay a
-  pub other : Along from t tail b
-  pub lower : x ≡ min (a .step) (b .step)
-
--- what an operation makes of the steps that the two have ahead
-abbrev pub resultAhead : Operation → (s pay t tail : List ℕ) → Walk → Walk → List ℕ
-resultAhead op s pay t tail a b = resultOf op (ahead s pay a) (ahead t tail b)
-
-module _ {s pay t tail : List ℕ} {a b : Walk} {x : ℕ} (w : Together s pay t tail a b x) where
+module _ {s pay t tail : List ℕ} {m : Walks} (w : Together s pay t tail m) where
   -- no step is left
-  pub together-end : (op : Operation) → noStep ≤ x → resultAhead op s pay t tail a b ≡ []
+  pub together-end : (op : Operation) → noStep ≤ m .next → resultAhead op s pay t tail m ≡ []
   together-end op h =
-      merge-end noStep op (w .from) (ahead s pay a) (ahead t tail b) (w .one .below) (w .other .below)
-      (omega (arith, head-ahead s pay a (w .one .stands), w .lower)) (omega (arith, head-ahead t tail b (w .other .stands), w .lower))
+      merge-end noStep op (w .from) (ahead s pay (m .first)) (ahead t tail (m .second)) (w .first .below) (w .second .below)
+      (omega (arith, head-ahead s pay (m .first) (w .first .stands), w .lower))
+      (omega (arith, head-ahead t tail (m .second) (w .second .stands), w .lower))
 
 -- ---- the first steps
-
--- the walks at the first steps of two accepted images: all of the result is ahead, and it is not too long to be counted
-pub record Begins (s pay t tail : List ℕ) (a b : Walk) (x : ℕ) : Type 0 where
-  pub together : Together s pay t tail a b x
-  pub all : (op : Operation) → resultAhead op s pay t tail a b ≡ resultOf op (stepsOf s) (stepsOf t)
-  pub few : (op : Operation) → length (resultOf op (stepsOf s) (stepsOf t)) ≤ noStep
 
 module _ {s pay t tail : List ℕ} {a b : Walk} {x : ℕ} where
   pub begins : Bytes s → Bytes t → Taken s → Taken t → Stands s pay a × (ahead s pay a ≡ stepsOf s) → Stands t tail b × (ahead t tail b ≡ stepsOf t)
       → x ≡ min (a .step) (b .step)
-      → Begins s pay t tail a b x
+      → Begins s pay t tail (record { first = a; second = b; next = x })
   begins m n k l u v e =
       record {
-        together = record { from = 0; one = along-first s pay a m k u; other = along-first t tail b n l v; lower = e };
+        together = record { from = 0; first = along-first s pay a m k u; second = along-first t tail b n l v; lower = e };
         all = λ op. ap₂ (resultOf op) (u .1) (v .1);
         few = λ op. length-result op (stepsOf s) (stepsOf t) noStep (steps-listed s m k .small) (steps-listed t n l .small);
       }
 
 -- all of the result is to be stored, where there is room for it
-pub storing-all : {s pay t tail : List ℕ} {a b : Walk} {x : ℕ} → Begins s pay t tail a b x → (op : Operation) (out : List ℕ)
+pub storing-all : {s pay t tail : List ℕ} {m : Walks} → Begins s pay t tail m → (op : Operation) (out : List ℕ)
     → length (resultOf op (stepsOf s) (stepsOf t)) ≤ length out
-    → Storing out 0 (resultOf op (stepsOf s) (stepsOf t)) out 0 (resultAhead op s pay t tail a b)
+    → Storing out 0 (resultOf op (stepsOf s) (stepsOf t)) out 0 (resultAhead op s pay t tail m)
 storing-all {s} {t = t} w op out h = storing-same (storing-start out 0 (resultOf op (stepsOf s) (stepsOf t)) (omega arith)) (sym (w .all op))
 
 -- ---- counting
@@ -91,8 +72,8 @@ pub record Counting (zs : List ℕ) (n : ℕ) (ws : List ℕ) : Type 0 where
   pub all : n + length ws ≡ length zs
   pub few : length zs ≤ noStep
 
-pub counting-start : {s pay t tail : List ℕ} {a b : Walk} {x : ℕ} → Begins s pay t tail a b x → (op : Operation)
-    → Counting (resultOf op (stepsOf s) (stepsOf t)) 0 (resultAhead op s pay t tail a b)
+pub counting-start : {s pay t tail : List ℕ} {m : Walks} → Begins s pay t tail m → (op : Operation)
+    → Counting (resultOf op (stepsOf s) (stepsOf t)) 0 (resultAhead op s pay t tail m)
 counting-start w op = record { all = omega (arith, ap length (w .all op)); few = w .few op }
 
 module _ {zs : List ℕ} {n : ℕ} {ws : List ℕ} (c : Counting zs n ws) where

@@ -4,7 +4,7 @@
 use mathlib.Core.Path.{_≡_, sym, ap, ap₂, _∙_, subst}
 use mathlib.Core.Bool.{Bool, _||_, or-false}
 use mathlib.Core.List.{List, [], _∷_, _++_}
-use Prim.Native.Nat.{ℕ, _+_, _-_, _*_, _≤_, _<_, min}
+use Prim.Native.Nat.{ℕ, _+_, _*_, _≤_, _<_, min}
 use native.Mathlib.Omega.{arith}
 use lib.ListN.{length, length-append}
 use Rattle.lists.specs.Rising.{Rising, beyond}
@@ -17,16 +17,18 @@ use Rattle.row.specs.Words.{wordBits}
 use Rattle.pair_window.specs.Window.{wordsFrom}
 use Rattle.image_walk.specs.declared.Walk.{Walk}
 use Rattle.image_walk.specs.Walk.{ahead}
-use Rattle.pair_lay.specs.Fill.{Fills}
+use Rattle.pair_lay.specs.Lays.{LaysWindow}
 use Rattle.image_walk.proofs.Shapes.{ahead-none}
 use Rattle.pair_operation.specs.declared.Operation.{Operation}
 use Rattle.pair_operation.specs.Result.{keeps, sieve, resultOf}
 use Rattle.pair_operation.specs.Merge.{headOf}
-use Rattle.pair_dense.specs.Words.{stepsIn}
+use Rattle.pair_dense.specs.declared.Walks.{Walks}
+use Rattle.pair_dense.specs.Inside.Words.{stepsIn}
+use Rattle.pair_dense.specs.Inside.Walks.{Along, Together, resultAhead, Passes}
 use Rattle.pair_operation.proofs.Result.{keeps-none, rising-sieve, beyond-sieve, has-sieve, has-result, result-one, result-is}
 use Rattle.pair_operation.proofs.Turns.{rising-result-from}
 use Rattle.pair_dense.proofs.Words.{steps-in-words, length-steps-moved}
-use Rattle.pair_dense.proofs.Walking.{Along, Together, resultAhead, head-ahead}
+use Rattle.pair_dense.proofs.Walking.{head-ahead}
 
 -- ---- two lists
 
@@ -117,7 +119,7 @@ abbrev pub windowEnd : ℕ → ℕ → ℕ
 windowEnd x w = min (x + w) noStep
 
 -- the walk `r` has after the window of these words what `a` had ahead
-module _ {o x : ℕ} {s pay : List ℕ} {a : Walk} {words : List ℕ} {r : Walk} (l : Along o s pay a) (h : x ≤ a .step) (f : Fills s pay a x words r) where
+module _ {o x : ℕ} {s pay : List ℕ} {a : Walk} {words : List ℕ} {r : Walk} (l : Along o s pay a) (h : x ≤ a .step) (f : LaysWindow s pay a x words r) where
   window : ℕ
   window = wordBits * length words
 
@@ -135,13 +137,13 @@ module _ {o x : ℕ} {s pay : List ℕ} {a : Walk} {words : List ℕ} {r : Walk}
       (omega (arith, head-ahead s pay r (f .stands), f .after g)))
       (λ g. subst (Rising n) (sym (ahead-none s pay r g)) tt)
 
-  pub fill-split : Split x (wordBits * length words) (f .laid) (ahead s pay r)
+  pub laid-split : Split x (wordBits * length words) (f .laid) (ahead s pay r)
   unfolding window
-  fill-split = record { rising = rising-ahead; before = f .before; after = rising-after (x + window) (omega arith) }
+  laid-split = record { rising = rising-ahead; before = f .before; after = rising-after (x + window) (omega arith) }
 
-  pub fill-along : Along (windowEnd x (wordBits * length words)) s pay r
+  pub laid-along : Along (windowEnd x (wordBits * length words)) s pay r
   unfolding window
-  fill-along =
+  laid-along =
       record {
         stands = f .stands;
         below =
@@ -154,55 +156,57 @@ module _ {o x : ℕ} {s pay : List ℕ} {a : Walk} {words : List ℕ} {r : Walk}
       }
 
   -- the next step is after the window, or there is none
-  pub fill-past : 0 < length words → x < noStep → x < r .step
-  fill-past k g = by-lt (r .step) noStep (λ e. omega (arith, f .after e)) (λ e. omega arith)
+  pub laid-past : 0 < length words → x < noStep → x < r .step
+  laid-past k g = by-lt (r .step) noStep (λ e. omega (arith, f .after e)) (λ e. omega arith)
 
 -- ---- two walks
 
-module _ {s pay t tail : List ℕ} {a b : Walk} {x : ℕ} (w : Together s pay t tail a b x) {left right : List ℕ} {a′ b′ : Walk}
-    (f : Fills s pay a x left a′) (g : Fills t tail b x right b′) (same : length left ≡ length right) where
-  one : x ≤ a .step
-  one = omega (arith, w .lower)
+module _ {s pay t tail : List ℕ} {m : Walks} (w : Together s pay t tail m) {left right : List ℕ} {a b : Walk}
+    (f : LaysWindow s pay (m .first) (m .next) left a) (g : LaysWindow t tail (m .second) (m .next) right b) (same : length left ≡ length right) where
+  from-first : m .next ≤ m .first .step
+  from-first = omega (arith, w .lower)
 
-  other : x ≤ b .step
-  other = omega (arith, w .lower)
+  from-second : m .next ≤ m .second .step
+  from-second = omega (arith, w .lower)
 
-  pub together-window : {x′ : ℕ} → x′ ≡ min (a′ .step) (b′ .step) → Together s pay t tail a′ b′ x′
-  together-window e =
-      record {
-        from = windowEnd x (wordBits * length left);
-        one = fill-along (w .one) one f;
-        other = subst (λ (n : ℕ). Along (windowEnd x (wordBits * n)) t tail b′) (sym same) (fill-along (w .other) other g);
-        lower = e;
-      }
-
-  pub window-past : {x′ : ℕ} → x′ ≡ min (a′ .step) (b′ .step) → 0 < length left → x < noStep → noStep - x′ < noStep - x
-  window-past e k h = omega (arith, fill-past (w .one) one f k h, fill-past (w .other) other g (omega arith) h)
-
-  pub window-turn : (op : Operation) → resultAhead op s pay t tail a b ≡ stepsIn op x left right ++ resultAhead op s pay t tail a′ b′
+  window-turn : (op : Operation) → resultAhead op s pay t tail m ≡ stepsIn op (m .next) left right ++ resultOf op (ahead s pay a) (ahead t tail b)
   window-turn op =
+      let x : ℕ = m .next in
       let n : ℕ = length left in
-      let v : Split x (wordBits * n) (g .laid) (ahead t tail b′) =
-      subst (λ (k : ℕ). Split x (wordBits * k) (g .laid) (ahead t tail b′)) (sym same) (fill-split (w .other) other g)
+      let v : Split x (wordBits * n) (g .laid) (ahead t tail b) =
+      subst (λ (k : ℕ). Split x (wordBits * k) (g .laid) (ahead t tail b)) (sym same) (laid-split (w .second) from-second g)
       in
       let r : right ≡ wordsFrom n x (g .laid) = g .are ∙ ap (λ (k : ℕ). wordsFrom k x (g .laid)) (sym same) in
       ap₂ (resultOf op) (f .split) (g .split)
-      ∙ result-window op x (wordBits * n) (fill-split (w .one) one f) v
-      ∙ ap (λ (l : List ℕ). l ++ resultAhead op s pay t tail a′ b′)
+      ∙ result-window op x (wordBits * n) (laid-split (w .first) from-first f) v
+      ∙ ap (λ (l : List ℕ). l ++ resultOf op (ahead s pay a) (ahead t tail b))
       (sym (ap₂ (stepsIn op x) (f .are) r ∙ steps-in-words op n x (f .laid) (g .laid)))
 
+  pub window-passes : {x : ℕ} → x ≡ min (a .step) (b .step) → 0 < length left → m .next < noStep
+      → Passes s pay t tail m left right (record { first = a; second = b; next = x })
+  window-passes e k h =
+      record {
+        together =
+            record {
+              from = windowEnd (m .next) (wordBits * length left);
+              first = laid-along (w .first) from-first f;
+              second =
+                  subst (λ (n : ℕ). Along (windowEnd (m .next) (wordBits * n)) t tail b) (sym same) (laid-along (w .second) from-second g);
+              lower = e;
+            };
+        same = same;
+        past = omega (arith, laid-past (w .first) from-first f k h, laid-past (w .second) from-second g (omega arith) h);
+        turn = window-turn;
+      }
+
+module _ {s pay t tail : List ℕ} {m : Walks} {left right : List ℕ} {r : Walks} (p : Passes s pay t tail m left right r) (op : Operation) where
+  passes-length : length (resultAhead op s pay t tail m) ≡ length (stepsIn op (m .next) left right) + length (resultAhead op s pay t tail r)
+  passes-length = ap length (p .turn op) ∙ length-append (stepsIn op (m .next) left right) (resultAhead op s pay t tail r)
+
   -- where there is room for all, there is room for the steps of the window
-  pub window-room : (op : Operation) (n m : ℕ) → n + length (resultAhead op s pay t tail a b) ≤ m → n + length (stepsIn op x left right) ≤ m
-  window-room op n m h =
-      omega (arith, ap length (window-turn op), length-append (stepsIn op x left right) (resultAhead op s pay t tail a′ b′))
+  pub passes-room : (n k : ℕ) → n + length (resultAhead op s pay t tail m) ≤ k → n + length (stepsIn op (m .next) left right) ≤ k
+  passes-room n k h = omega (arith, passes-length)
 
   -- the turn counts the steps of the window
-  pub window-length : (op : Operation)
-      → length (resultAhead op s pay t tail a b) ≡ length (stepsIn op 0 left right) + length (resultAhead op s pay t tail a′ b′)
-  window-length op =
-      omega (
-        arith,
-        ap length (window-turn op),
-        length-append (stepsIn op x left right) (resultAhead op s pay t tail a′ b′),
-        length-steps-moved op x left right,
-      )
+  pub passes-count : length (resultAhead op s pay t tail m) ≡ length (stepsIn op 0 left right) + length (resultAhead op s pay t tail r)
+  passes-count = omega (arith, passes-length, length-steps-moved op (m .next) left right)

@@ -3,9 +3,9 @@
 use mathlib.Core.Path.{_≡_, refl, sym, ap, ap₂, _∙_}
 use mathlib.Core.Bool.{Bool, true, false}
 use mathlib.Core.List.{List, [], _∷_, _++_}
-use Prim.Native.Nat.{ℕ, zero, suc, _+_, _-_, _*_, _/_, _%_, _≤_, _<_, min}
+use Prim.Native.Nat.{ℕ, zero, suc, _+_, _*_, _/_, _≤_, _<_}
 use native.Mathlib.Omega.{arith}
-use lib.Bits.{bitAnd, and-step, and-le-l}
+use lib.Bits.{and-le-l}
 use lib.ListN.{length, getD, drop, length-append, drop-of-length-le}
 use Rattle.lists.specs.Choice.{pick}
 use Rattle.lists.specs.Members.{has}
@@ -14,24 +14,13 @@ use Rattle.row.specs.Row.{bitsFrom, bitsOf}
 use Rattle.row.specs.Words.{wordBits}
 use Rattle.row.proofs.Bits.{bits-none, bits-odd, bits-even, length-bits-moved}
 use Rattle.pair_window.specs.Window.{wordsFrom}
-use Rattle.pair_window.proofs.Words.{or-digits}
+use Rattle.pair_window.proofs.Digits.{or-digits, and-digits}
 use Rattle.pair_operation.specs.declared.Operation.{Operation}
 use Rattle.pair_operation.specs.declared.Operation.the-variants.{Both, Either, Without}
 use Rattle.pair_operation.specs.Result.{keeps, sieve}
-use Rattle.pair_dense.specs.Words.{wordOf, stepsIn}
+use Rattle.pair_dense.specs.Inside.Words.{wordOf, stepsIn}
 
 -- ---- one bit at a time
-
-and-digits : (a b x y : ℕ) → x < 2 → y < 2 → bitAnd (x + 2 * a) (y + 2 * b) ≡ min x y + 2 * bitAnd a b
-and-digits a b x y h g =
-    let p : (x + 2 * a) / 2 ≡ a = omega arith in
-    let q : (y + 2 * b) / 2 ≡ b = omega arith in
-    let r : (x + 2 * a) % 2 ≡ x = omega arith in
-    let s : (y + 2 * b) % 2 ≡ y = omega arith in
-    and-step (x + 2 * a) (y + 2 * b)
-    ∙ ap₂ (λ (n m : ℕ). bitAnd n m * 2 + min ((x + 2 * a) % 2) ((y + 2 * b) % 2)) p q
-    ∙ ap₂ (λ (n m : ℕ). bitAnd a b * 2 + min n m) r s
-    ∙ omega arith
 
 -- a test as a bit
 abbrev bit : Bool → ℕ

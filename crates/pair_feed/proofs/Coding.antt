@@ -23,7 +23,7 @@ use Rattle.image_walk.proofs.Shapes.{ahead-step}
 use Rattle.image_walk.proofs.Coding.{opening, opening-bad}
 use Rattle.image_walk.proofs.Passing.{among, code-next, code-same, pass-to}
 use Rattle.pair_feed.specs.declared.Feed.{Feed}
-use Rattle.pair_feed.specs.Growth.{Grown, amongCodes}
+use Rattle.pair_feed.specs.Inside.Growth.{Grown, amongCodes}
 use Rattle.pair_feed.proofs.Growing.{grown-start, grown-same, grown-one}
 
 -- the walk `v` stands at the step after that of `w`

@@ -1,6 +1,6 @@
 -- A whole buffer: from a walk on, and past the last step.
 -- Assumes nothing.
-use mathlib.Core.Path.{_≡_, refl, sym, ap, _∙_, subst}
+use mathlib.Core.Path.{_≡_, refl, sym, ap, _∙_}
 use mathlib.Core.List.{List, []}
 use Prim.Native.Nat.{ℕ, _+_, _-_, _≤_, _<_}
 use native.Mathlib.Omega.{arith}
@@ -13,7 +13,7 @@ use Rattle.image_walk.specs.Walk.{ahead, Stands}
 use Rattle.image_walk.proofs.Shapes.{ahead-none}
 use Rattle.pair_feed.specs.declared.Feed.{Feed}
 use Rattle.pair_feed.specs.Feed.{Fed}
-use Rattle.pair_feed.specs.Growth.{Grown}
+use Rattle.pair_feed.specs.Inside.Growth.{Grown}
 
 module _ {s pay : List ℕ} {w : Walk} (t : Stands s pay w) where
   -- nothing is read yet

@@ -14,7 +14,7 @@ use Rattle.image_walk.specs.Walk.{ahead, Stands}
 use Rattle.image_walk.proofs.Ranks.{rank-step, rank-next}
 use Rattle.pair_feed.specs.declared.Feed.{Feed}
 use Rattle.pair_feed.specs.Feed.{Fed}
-use Rattle.pair_feed.specs.Growth.{Grown}
+use Rattle.pair_feed.specs.Inside.Growth.{Grown}
 
 module _ {s pay : List ℕ} {f : Feed} {steps xs : List ℕ} (d : Fed s pay f steps xs) where
   -- the walk has the same steps ahead

@@ -7,7 +7,6 @@ use native.Mathlib.Omega.{arith}
 use lib.ListN.{length, getD, drop, length-drop}
 use lib.Seq.{drop-drop, getD-drop}
 use Rattle.rules.specs.Limits.{noStep}
-use Rattle.image_walk.specs.Walk.{ahead}
 use Rattle.pair_feed.specs.declared.Feed.{Feed}
 use Rattle.pair_feed.specs.Feed.{Fed}
 

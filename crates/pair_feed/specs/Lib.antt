@@ -1,2 +1,2 @@
 pub mod Feed
-pub mod Growth
+pub mod Inside

@@ -4,13 +4,14 @@
 
 ghost use mathlib.Core.Path.{_≡_};
 ghost use mathlib.Core.List.{List, _∷_};
-ghost use Prim.Native.Nat.{ℕ, _^_, _≤_, _<_};
+ghost use Prim.Native.Nat.{ℕ, _≤_, _<_};
 ghost use lib.ListN.{length, getD};
+ghost use Rattle.lists.specs.Stores.{Brief};
 ghost use Rattle.rules.specs.Limits.{noStep};
 ghost use Rattle.image.specs.Taken.{stepsOf, Taken, payloadIn};
 ghost use Rattle.image_walk.specs.Walk.{ahead, Stands};
 ghost use Rattle.pair_feed.specs.Feed.{Fed};
-ghost use Rattle.pair_feed.specs.Growth.{Grown, amongCodes};
+ghost use Rattle.pair_feed.specs.Inside.Growth.{Grown, amongCodes};
 use code::Reading;
 use image_walk::Walk;
 
@@ -23,7 +24,7 @@ pub struct Feed {
     pub end: usize,
 }
 
-// The bytes of two codes of at most two bytes each.
+// The bytes of two codes of at most two bytes each. Free: measured; `run` is written for two codes a turn.
 const PAIR_BYTES: usize = 4;
 
 // The feed that shows the numbers to before `k`, where its walk has come to a step and a place among the codes of the open block.
@@ -40,7 +41,7 @@ fn among(f: Feed, step: usize, at: usize, k: usize) -> Feed
 // Stores the steps of a walk among codes, two at a time, as long as codes of one byte or two follow and there is room.
 fn run<'a>(f: Feed, steps: &mut [u32], image: &'a [u8], payload: &'a [u8]) -> Feed
     requires { ⌜ Stands (now image) (now payload) (f .walk) × ((f .walk .bits ≡ 0) × (f .walk .at < f .walk .end)) ⌝ }
-    requires { ⌜ (0 < length (now steps)) × ((f .end ≤ length (now steps)) × (length (now steps) < 2 ^ 20)) ⌝ }
+    requires { ⌜ (0 < length (now steps)) × ((f .end ≤ length (now steps)) × Brief (now steps)) ⌝ }
     ensures { λ r. ⌜ Grown (now (image .entry)) (now (payload .entry)) f (now (steps .entry)) r (now (steps .exit)) ⌝ }
 {
     let end = f.walk.end;
@@ -110,7 +111,7 @@ fn past<'a>(w: Walk, image: &'a [u8], payload: &'a [u8]) -> Walk
 // Stores the walk's step, and the steps of the short codes that follow it.
 fn on<'a>(f: Feed, steps: &mut [u32], image: &'a [u8], payload: &'a [u8]) -> Feed
     requires { ⌜ Stands (now image) (now payload) (f .walk) × (f .walk .step < noStep) ⌝ }
-    requires { ⌜ (f .end < length (now steps)) × (length (now steps) < 2 ^ 20) ⌝ }
+    requires { ⌜ (f .end < length (now steps)) × Brief (now steps) ⌝ }
     ensures { λ r. ⌜ Grown (now (image .entry)) (now (payload .entry)) f (now (steps .entry)) r (now (steps .exit)) × (f .end < r .end) ⌝ }
 {
     let k = f.end;
@@ -133,10 +134,10 @@ fn on<'a>(f: Feed, steps: &mut [u32], image: &'a [u8], payload: &'a [u8]) -> Fee
 
 // Fills the buffer with one past the largest step.
 fn fill_with_none(steps: &mut [u32])
-    requires { ⌜ length (now steps) < 2 ^ 20 ⌝ }
+    requires { ⌜ Brief (now steps) ⌝ }
     ensures { λ _. ⌜ ((i : ℕ) → i < length (now (steps .exit)) → getD (now (steps .exit)) i 0 ≡ noStep) ⌝ }
 {
-    let none = rules::largest_step() + 1;
+    let none = rules::no_step() as u32;
     let mut i: usize = 0;
     while i < steps.len() {
         steps[i] = none;
@@ -147,11 +148,11 @@ fn fill_with_none(steps: &mut [u32])
 // Reads the steps ahead of a walk into the buffer from its front on.
 fn refill<'a>(w: Walk, steps: &mut [u32], image: &'a [u8], payload: &'a [u8]) -> Feed
     requires { ⌜ Stands (now image) (now payload) w ⌝ }
-    requires { ⌜ (0 < length (now steps)) × (length (now steps) < 2 ^ 20) ⌝ }
+    requires { ⌜ (0 < length (now steps)) × Brief (now steps) ⌝ }
     ensures { λ r. ⌜ Fed (now (image .entry)) (now (payload .entry)) r (now (steps .exit)) (ahead (now (image .entry)) (now (payload .entry)) w)
         × (r .at < r .end) ⌝ }
 {
-    let none = (rules::largest_step() as usize) + 1;
+    let none = rules::no_step();
     let count = steps.len();
     if none <= w.step {
         fill_with_none(steps);
@@ -179,7 +180,7 @@ fn refill<'a>(w: Walk, steps: &mut [u32], image: &'a [u8], payload: &'a [u8]) ->
 // A feed of the steps of an accepted image, from the first on.
 pub fn first<'a>(steps: &mut [u32], image: &'a [u8], payload: &'a [u8]) -> Feed
     requires { ⌜ Taken (now image) × (now payload ≡ payloadIn (now image)) ⌝ }
-    requires { ⌜ (0 < length (now steps)) × (length (now steps) < 2 ^ 20) ⌝ }
+    requires { ⌜ (0 < length (now steps)) × Brief (now steps) ⌝ }
     ensures { λ r. ⌜ Fed (now (image .entry)) (now (payload .entry)) r (now (steps .exit)) (stepsOf (now (image .entry))) × (r .at < r .end) ⌝ }
 {
     refill(image_walk::first(image, payload), steps, image, payload)
@@ -188,7 +189,7 @@ pub fn first<'a>(steps: &mut [u32], image: &'a [u8], payload: &'a [u8]) -> Feed
 // A feed that shows at least one number: the same, or read anew where all was taken.
 pub fn more<'a>(f: Feed, steps: &mut [u32], image: &'a [u8], payload: &'a [u8]) -> Feed
     requires { ⌜ Stands (now image) (now payload) (f .walk) × ((f .at ≤ f .end) × (f .end ≤ length (now steps))) ⌝ }
-    requires { ⌜ (0 < length (now steps)) × (length (now steps) < 2 ^ 20) ⌝ }
+    requires { ⌜ (0 < length (now steps)) × Brief (now steps) ⌝ }
     ensures { λ r. ⌜ ((xs : List ℕ) → Fed (now (image .entry)) (now (payload .entry)) f (now (steps .entry)) xs
         → Fed (now (image .entry)) (now (payload .entry)) r (now (steps .exit)) xs) × (r .at < r .end) ⌝ }
 {

@@ -11,15 +11,15 @@ use Rattle.lists.proofs.Parts.{part-append, part-one}
 use Rattle.rules.specs.Numbers.{numberAt}
 use Rattle.rules.proofs.Numbers.{number-four}
 use Rattle.code.specs.declared.Reading.the-variants.{Code}
-use Rattle.code.specs.Code.{oneGroup, flag, codeOf, codeSize, readAt}
+use Rattle.code.specs.Code.{oneGroup, flag, codeOf, codeSize}
 use Rattle.code.specs.Code.Laws.{code-single, length-code, read-code}
 use Rattle.row.specs.Words.{wordBits}
 use Rattle.pair_window.specs.Window.{Adds}
 use Rattle.image_walk.specs.declared.Walk.{Walk}
 use Rattle.image_walk.specs.Walk.{Placed}
 use Rattle.image_walk.specs.Turns.{codedWalk}
-use Rattle.pair_lay.specs.Fill.{Ran}
-use Rattle.pair_lay.specs.Fours.{atOnce, ones, Plain, Leads, Leading}
+use Rattle.pair_lay.specs.Inside.Runs.{Ran}
+use Rattle.pair_lay.specs.Inside.Fours.{atOnce, ones, Plain, Leads, Leading}
 use Rattle.pair_lay.proofs.Running.{ran-start, ran-turn}
 
 -- ---- the bytes of a number, to the base 256: the lowest, and the others

@@ -1,4 +1,4 @@
--- For the proofs of this crate: `Running`, the steps of codes that go into a window; `Fours`, four of them at once; `Filling`, turn by turn.
+-- For the proofs of this crate: `Running`, the steps of codes that go into a window; `Fours`, four of them at once; `Laying`, turn by turn.
 mod Running
 mod Fours
-mod Filling
+mod Laying

@@ -21,7 +21,7 @@ use Rattle.image_walk.specs.Blocks.{later}
 use Rattle.image_walk.specs.Walk.{here, ahead, Placed, Stands}
 use Rattle.image_walk.specs.Turns.{codedWalk}
 use Rattle.pair_lay_row.specs.Lays.{Lays}
-use Rattle.pair_lay.specs.Fill.{Ran}
+use Rattle.pair_lay.specs.Inside.Runs.{Ran}
 use Rattle.image_walk.proofs.Shapes.{beyond-first, ahead-step}
 use Rattle.image_walk.proofs.Passing.{code-next, code-same}
 

@@ -1,2 +1,2 @@
-pub mod Fill
-pub mod Fours
+pub mod Lays
+pub mod Inside

@@ -3,29 +3,31 @@
 
 ghost use mathlib.Core.Path.{_≡_};
 ghost use mathlib.Core.List.{[]};
-ghost use Prim.Native.Nat.{_+_, _-_, _/_, _%_, _^_, _≤_, _<_, min};
+ghost use Prim.Native.Nat.{_+_, _-_, _/_, _%_, _≤_, _<_};
 ghost use lib.ListN.{length};
+ghost use Rattle.lists.specs.Stores.{Brief};
 ghost use Rattle.rules.specs.Limits.{noStep};
 ghost use Rattle.pair_window.specs.Window.{wordsFrom};
 ghost use Rattle.code.specs.Code.{flag};
 ghost use Rattle.image_walk.specs.Walk.{Placed, Stands, Follows};
 ghost use Rattle.image_walk.specs.Turns.{codedWalk};
 ghost use Rattle.pair_lay_row.specs.Lays.{Within, Lays};
-ghost use Rattle.pair_lay.specs.Fill.{Fills, Opens, Ran};
-ghost use Rattle.pair_lay.specs.Fours.{atOnce, Plain, Leading};
+ghost use Rattle.pair_lay.specs.Lays.{LaysWindow};
+ghost use Rattle.pair_lay.specs.Inside.Runs.{Opens, Ran};
+ghost use Rattle.pair_lay.specs.Inside.Fours.{atOnce, Plain, Leading};
 use image_walk::Walk;
+use row::WORD_BITS;
 
-const WORD_BITS: usize = 64;
-
+// Document 01: the values of a byte.
 const BYTE_VALUES: usize = 256;
 
-// The high bit of a byte, which a code of one byte does not have.
+// Document 01: the high bit of a byte, which a code of one byte does not have.
 const FLAG: usize = 128;
 
-// Codes of one byte that are read at once.
+// Codes of one byte that are read at once. Free: measured; `Four` and `lay_fours` are written for this number.
 const AT_ONCE: usize = 4;
 
-// The number whose so many bytes are 1.
+// The number whose so many bytes are 1. It follows from the two above.
 const ONES: usize = 16843009;
 
 // What four bytes say of four steps, where each byte is a code by itself: how far it is from each step to the next. `flags` is 0 where that is
@@ -41,23 +43,12 @@ struct Four {
 // The value of the code at a place of the payload, in a part that goes up to `end`, where it has one byte.
 fn single_at(payload: &[u8], at: usize, end: usize) -> usize
     requires { ⌜ (at < end → end ≤ length (now payload)) ⌝ }
-    ensures { λ r. ⌜ Opens (now (payload .entry)) at end r 1 ⌝ }
+    ensures { λ r. ⌜ Opens (now (payload .entry)) at end r ⌝ }
 {
     if end <= at {
         return code::CODE_VALUES;
     }
     code::single(&payload[at..end])
-}
-
-// The same where it has two.
-fn double_at(payload: &[u8], at: usize, end: usize) -> usize
-    requires { ⌜ (at < end → end ≤ length (now payload)) ⌝ }
-    ensures { λ r. ⌜ Opens (now (payload .entry)) at end r 2 ⌝ }
-{
-    if end <= at {
-        return code::CODE_VALUES;
-    }
-    code::double(&payload[at..end])
 }
 
 // 1 where the lowest byte of a number has the high bit.
@@ -111,7 +102,7 @@ fn before_last(end: usize) -> usize
 // in the window, which are what is marked.
 fn lay_fours(w: Walk, from: usize, words: &mut [usize], payload: &[u8]) -> Walk
     requires { ⌜ Placed (now payload) w × ((w .bits ≡ 0) × (w .at < w .end)) ⌝ }
-    requires { ⌜ (from ≤ w .step) × (length (now words) < 2 ^ 20) ⌝ }
+    requires { ⌜ (from ≤ w .step) × Brief (now words) ⌝ }
     ensures { λ r. ⌜ Ran (now (payload .entry)) w from (now (words .entry)) (now (words .exit)) r
         × (r ≡ codedWalk (r .step) (r .at) (w .end) (w .block)) ⌝ }
 {
@@ -145,7 +136,7 @@ fn lay_fours(w: Walk, from: usize, words: &mut [usize], payload: &[u8]) -> Walk
 // one.
 fn lay_run(w: Walk, from: usize, words: &mut [usize], payload: &[u8]) -> Walk
     requires { ⌜ Placed (now payload) w × ((w .bits ≡ 0) × (w .at < w .end)) ⌝ }
-    requires { ⌜ (from ≤ w .step) × (length (now words) < 2 ^ 20) ⌝ }
+    requires { ⌜ (from ≤ w .step) × Brief (now words) ⌝ }
     ensures { λ r. ⌜ Ran (now (payload .entry)) w from (now (words .entry)) (now (words .exit)) r ⌝ }
 {
     let v = lay_fours(w, from, words, payload);
@@ -170,9 +161,13 @@ fn next_code<'a>(w: Walk, image: &'a [u8], payload: &'a [u8]) -> Walk
     requires { ⌜ Stands (now image) (now payload) w × ((w .bits ≡ 0) × (w .step < noStep)) ⌝ }
     ensures { λ r. ⌜ Follows (now (image .entry)) (now (payload .entry)) w r ⌝ }
 {
-    let gap = double_at(payload, w.at, w.end);
-    if gap < code::CODE_VALUES {
-        return image_walk::coded(w.step + 1 + gap, w.at + 2, w.end, w.block);
+    let at = w.at;
+    let end = w.end;
+    if at < end {
+        let gap = code::double(&payload[at..end]);
+        if gap < code::CODE_VALUES {
+            return image_walk::coded(w.step + 1 + gap, at + 2, end, w.block);
+        }
     }
     w.next(image, payload)
 }
@@ -186,7 +181,7 @@ fn lay_codes<'a>(
     image: &'a [u8],
     payload: &'a [u8],
 ) -> Walk
-    requires { ⌜ Stands (now image) (now payload) w × (Within w from (length (now words)) × (w .bits ≡ 0)) ⌝ }
+    requires { ⌜ Stands (now image) (now payload) w × (Within w from (now words) × (w .bits ≡ 0)) ⌝ }
     ensures { λ r. ⌜ Lays (now (image .entry)) (now (payload .entry)) w from (now (words .entry)) (now (words .exit)) r ⌝ }
 {
     pair_window::mark(words, w.step - from);
@@ -208,7 +203,7 @@ fn lay_loaded<'a>(
     image: &'a [u8],
     payload: &'a [u8],
 ) -> Walk
-    requires { ⌜ Stands (now image) (now payload) w × Within w from (length (now words)) ⌝ }
+    requires { ⌜ Stands (now image) (now payload) w × Within w from (now words) ⌝ }
     ensures { λ r. ⌜ Lays (now (image .entry)) (now (payload .entry)) w from (now (words .entry)) (now (words .exit)) r ⌝ }
 {
     if w.bits == 0 {
@@ -217,19 +212,8 @@ fn lay_loaded<'a>(
     pair_lay_row::lay_word(w, from, words, image, payload)
 }
 
-// The lesser of a bound and one past the largest step.
-fn capped(bound: usize) -> usize
-    ensures { λ r. ⌜ r ≡ min bound noStep ⌝ }
-{
-    let none = (rules::largest_step() as usize) + 1;
-    if bound < none {
-        return bound;
-    }
-    none
-}
-
 // Lays the steps ahead that fall into a window, whose first bit stands for `from`, and gives the walk at the first step after it.
-pub fn fill<'a>(
+pub fn lay_window<'a>(
     w: Walk,
     from: usize,
     words: &mut [usize],
@@ -237,10 +221,12 @@ pub fn fill<'a>(
     payload: &'a [u8],
 ) -> Walk
     requires { ⌜ Stands (now image) (now payload) w × (from ≤ w .step) ⌝ }
-    requires { ⌜ (now words ≡ wordsFrom (length (now words)) from []) × (length (now words) < 2 ^ 20) ⌝ }
-    ensures { λ r. ⌜ Fills (now (image .entry)) (now (payload .entry)) w from (now (words .exit)) r ⌝ }
+    requires { ⌜ (now words ≡ wordsFrom (length (now words)) from []) × Brief (now words) ⌝ }
+    ensures { λ r. ⌜ LaysWindow (now (image .entry)) (now (payload .entry)) w from (now (words .exit)) r ⌝ }
 {
-    let top = capped(from + WORD_BITS * words.len());
+    let none = rules::no_step();
+    let bound = from + WORD_BITS * words.len();
+    let top = rules::lower(bound, none);
     let mut at = w;
     while at.step < top {
         at = lay_loaded(at, from, words, image, payload);

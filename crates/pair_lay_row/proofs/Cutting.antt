@@ -19,9 +19,10 @@ use Rattle.image_walk.specs.declared.Walk.{Walk}
 use Rattle.image_walk.specs.Blocks.{later}
 use Rattle.image_walk.specs.Walk.{rowIn, here, ahead, Stands}
 use Rattle.image_walk.specs.Turns.{metWalk, left, Left, onward, Turned}
-use Rattle.pair_lay_row.specs.Rows.{wordRest, Cuts}
+use Rattle.pair_lay_row.specs.Inside.Rows.{wordRest, Cuts}
 use Rattle.image_walk.proofs.Shapes.{left-row, first-below}
 use Rattle.image_walk.proofs.Ahead.{word-here, word-beyond, word-ahead}
+use Rattle.image_walk.proofs.Standing.{met-placed, row-readable}
 use Rattle.pair_lay_row.proofs.Bits.{bits-above, bits-split}
 
 -- ---- past all of them
@@ -50,14 +51,7 @@ module _ {s pay : List ℕ} {w : Walk} (t : Stands s pay w) (b : w .bits ≡ 0 �
       let a = t .placed .on h in
       record {
         readable =
-            record {
-              small = omega (arith, beyond-word, a .small);
-              few = a .few;
-              within = a .within;
-              codes = λ k. absurd (b k);
-              order = λ k. omega arith;
-              tight = λ k g. omega (arith, beyond-word, a .row k .tight g);
-            };
+            row-readable (a .few) (a .within) b (omega (arith, beyond-word, a .small)) (omega arith) (λ g. omega (arith, beyond-word, a .row b .tight g));
         blocks = t .blocks;
         last = beyond-word ∙ t .last h;
       }
@@ -154,20 +148,7 @@ module _ {s pay : List ℕ} {w : Walk} (t : Stands s pay w) (b : w .bits ≡ 0 �
         stands =
             record {
               placed =
-                  record {
-                    step = omega arith;
-                    on =
-                        λ g.
-                        record {
-                          small = omega (arith, o .small);
-                          few = o .few;
-                          within = o .within;
-                          low = omega arith;
-                          codes = λ c. absurd (z c);
-                          row = λ c. record { lowest = refl; tight = λ j. omega (arith, l .tight j) };
-                        };
-                    off = λ g. absurd (omega arith);
-                  };
+                  met-placed o b kept z on q;
               blocks = t .blocks;
               last = λ g. q ∙ t .last h;
             };

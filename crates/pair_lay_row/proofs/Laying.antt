@@ -18,9 +18,10 @@ use Rattle.pair_window.specs.Window.{wordsFrom, Gains, Adds}
 use Rattle.image_walk.specs.declared.Rest.{Rest}
 use Rattle.image_walk.specs.Walk.{rowIn}
 use Rattle.image_walk.specs.Turns.{left, Readable}
-use Rattle.pair_lay_row.specs.Rows.{Rows}
+use Rattle.pair_lay_row.specs.Inside.Rows.{Rows}
 use Rattle.image_walk.proofs.Shapes.{left-row}
 use Rattle.image_walk.proofs.Loading.{row-load}
+use Rattle.image_walk.proofs.Standing.{row-readable}
 
 -- the first word of what is left stands in a part of its own
 pub word-part : (pay : List ℕ) (at end : ℕ) → at + wordBytes ≤ end → take wordBytes (part pay at (at + wordBytes)) ≡ take wordBytes (part pay at end)
@@ -143,14 +144,8 @@ module _ (pay : List ℕ) (p : Rest) (r : Readable pay p) (k : p .kind ≡ 0 →
       record {
         laid = s .laid;
         readable =
-            record {
-              small = omega (arith, left-last, r .small);
-              few = r .few;
-              within = r .within;
-              codes = λ z. absurd (k z);
-              order = λ z. omega (arith, r .order k);
-              tight = λ z g. omega (arith, left-last, r .tight k (omega arith));
-            };
+            row-readable (r .few) (r .within) k (omega (arith, left-last, r .small)) (omega (arith, r .order k))
+            (λ g. omega (arith, left-last, r .tight k (omega arith)));
         block = refl;
         end = refl;
         is = whole;

@@ -23,7 +23,7 @@ use Rattle.image_walk.specs.Blocks.{later}
 use Rattle.image_walk.specs.Walk.{ahead, Stands}
 use Rattle.image_walk.specs.Turns.{left, Left, onward, Turned}
 use Rattle.pair_lay_row.specs.Lays.{Lays}
-use Rattle.pair_lay_row.specs.Rows.{wordRest, Cuts, Rows}
+use Rattle.pair_lay_row.specs.Inside.Rows.{wordRest, Cuts, Rows}
 use Rattle.pair_lay_row.proofs.Cutting.{word-onward}
 
 -- ---- steps past the window leave no bit

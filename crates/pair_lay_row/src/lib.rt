@@ -3,17 +3,16 @@
 ghost use mathlib.Core.Path.{_≡_};
 ghost use Prim.Native.Nat.{_+_, _*_, _^_, _≤_, _<_};
 ghost use lib.ListN.{length};
+ghost use Rattle.lists.specs.Stores.{Brief};
 ghost use Rattle.row.specs.Words.{wordBytes, wordBits};
 ghost use Rattle.image_walk.specs.Walk.{Stands};
 ghost use Rattle.image_walk.specs.Turns.{Readable};
 ghost use Rattle.pair_lay_row.specs.Lays.{Within, Lays};
-ghost use Rattle.pair_lay_row.specs.Rows.{wordRest, Cuts, Rows};
+ghost use Rattle.pair_lay_row.specs.Inside.Rows.{wordRest, Cuts, Rows};
 use image_walk::Rest;
 use image_walk::Walk;
-
-const WORD_BYTES: usize = 8;
-
-const WORD_BITS: usize = 64;
+use row::WORD_BITS;
+use row::WORD_BYTES;
 
 // What a walk in a row has left when all ones of its word are passed.
 fn past_word(w: Walk) -> Rest
@@ -49,17 +48,13 @@ fn fitting(p: Rest, room: usize) -> usize
     ensures { λ r. ⌜ (wordBits * r ≤ room) × (p .at + wordBytes * r < p .end) ⌝ }
 {
     let count = (p.end - p.at - 1) / WORD_BYTES;
-    let most = room / WORD_BITS;
-    if count < most {
-        return count;
-    }
-    most
+    rules::lower(count, room / WORD_BITS)
 }
 
 // Lays the words of a row that fall into a window whole, the row's last word aside, and gives what is left then.
 fn lay_words(p: Rest, from: usize, words: &mut [usize], payload: &[u8]) -> Rest
     requires { ⌜ Readable (now payload) p × (p .kind ≡ 0 → ⊥) ⌝ }
-    requires { ⌜ (from ≤ p .from) × ((p .from ≤ from + wordBits * length (now words)) × ((from < 2 ^ 32) × (length (now words) < 2 ^ 20))) ⌝ }
+    requires { ⌜ (from ≤ p .from) × ((p .from ≤ from + wordBits * length (now words)) × ((from < 2 ^ 32) × Brief (now words))) ⌝ }
     ensures { λ r. ⌜ Rows (now (payload .entry)) p from (now (words .entry)) (now (words .exit)) r ⌝ }
 {
     if p.end <= p.at {
@@ -93,7 +88,7 @@ pub fn lay_word<'a>(
     image: &'a [u8],
     payload: &'a [u8],
 ) -> Walk
-    requires { ⌜ Stands (now image) (now payload) w × (Within w from (length (now words)) × (0 < w .bits)) ⌝ }
+    requires { ⌜ Stands (now image) (now payload) w × (Within w from (now words) × (0 < w .bits)) ⌝ }
     ensures { λ r. ⌜ Lays (now (image .entry)) (now (payload .entry)) w from (now (words .entry)) (now (words .exit)) r ⌝ }
 {
     let bound = from + WORD_BITS * words.len();

@@ -64,33 +64,6 @@ module _ (op : Operation) (m : ℕ) (xs₀ ys₀ xs ys : List ℕ) (u₀ : Risin
       result-one op xs₀ ys₀ (resultOf op xs₀ ys₀) (kept b m (resultOf op xs ys)) (result-is op xs₀ ys₀ u₀ v₀)
       (record { rising = rising-turn b; members = has-turn b e })
 
--- ---- by the first steps
-
-module _ (op : Operation) {o : ℕ} where
-  -- the first list's first step is below all of the second
-  pub result-first : (x : ℕ) (xs ys : List ℕ) → Rising o (x ∷ xs) → Rising (suc x) ys
-      → resultOf op (x ∷ xs) ys ≡ kept (keeps op true false) x (resultOf op xs ys)
-  result-first x xs ys u v =
-      result-turn op x (x ∷ xs) ys xs ys (rising-weaken (x ∷ xs) (omega arith) u) (rising-weaken ys (omega arith) v) (u .1) v
-      (λ z n. has-past z x xs n) (λ z n. refl) (keeps op true false)
-      (rw (has-here x x xs refl, has-below x (suc x) ys v (omega arith)))
-
-  -- the second list's first step is below all of the first
-  pub result-second : (y : ℕ) (xs ys : List ℕ) → Rising (suc y) xs → Rising o (y ∷ ys)
-      → resultOf op xs (y ∷ ys) ≡ kept (keeps op false true) y (resultOf op xs ys)
-  result-second y xs ys u v =
-      result-turn op y xs (y ∷ ys) xs ys (rising-weaken xs (omega arith) u) (rising-weaken (y ∷ ys) (omega arith) v) u (v .1)
-      (λ z n. refl) (λ z n. has-past z y ys n) (keeps op false true)
-      (rw (has-here y y ys refl, has-below y (suc y) xs u (omega arith)))
-
-  -- both begin with the same step
-  pub result-same : (x : ℕ) (xs ys : List ℕ) → Rising o (x ∷ xs) → Rising o (x ∷ ys)
-      → resultOf op (x ∷ xs) (x ∷ ys) ≡ kept (keeps op true true) x (resultOf op xs ys)
-  result-same x xs ys u v =
-      result-turn op x (x ∷ xs) (x ∷ ys) xs ys (rising-weaken (x ∷ xs) (omega arith) u) (rising-weaken (x ∷ ys) (omega arith) v) (u .1) (v .1)
-      (λ z n. has-past z x xs n) (λ z n. has-past z x ys n) (keeps op true true)
-      (rw (has-here x x xs refl, has-here x x ys refl))
-
 pub result-none : (op : Operation) → resultOf op [] [] ≡ []
 unfolding resultOf sieve
 result-none op = refl

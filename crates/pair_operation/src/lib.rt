@@ -11,12 +11,12 @@ pub enum Operation {
 }
 
 // Whether an operation keeps a step, by whether the first image has it and whether the second has it.
-pub fn keeps(op: Operation, one: bool, other: bool) -> bool
-    ensures { λ r. ⌜ r ≡ keeps op one other ⌝ }
+pub fn keeps(op: Operation, in_first: bool, in_second: bool) -> bool
+    ensures { λ r. ⌜ r ≡ keeps op in_first in_second ⌝ }
 {
     match op {
-        Operation::Both => one && other,
-        Operation::Either => one || other,
-        Operation::Without => one && !other,
+        Operation::Both => in_first && in_second,
+        Operation::Either => in_first || in_second,
+        Operation::Without => in_first && !in_second,
     }
 }

@@ -26,8 +26,8 @@ use Rattle.pair_feed.specs.declared.Feed.{Feed}
 use Rattle.pair_feed.specs.Feed.{Fed}
 use Rattle.pair_thin.specs.declared.Progress.{Progress}
 use Rattle.pair_thin.specs.declared.Sides.{Sides}
-use Rattle.pair_thin.specs.Shown.{Shows, Shown, Merges}
-use Rattle.pair_thin.specs.Round.{toCome, Comes, Ready, resultToCome, Goes}
+use Rattle.pair_thin.specs.Inside.Shown.{Shows, Shown, Merges}
+use Rattle.pair_thin.specs.Inside.Round.{toCome, Comes, Ready, resultToCome, Goes}
 use Rattle.pair_feed.proofs.Taking.{fed-past}
 use Rattle.pair_thin.proofs.Turning.{head-getD}
 
@@ -119,49 +119,49 @@ module _ {s pay t tail : List ℕ} {m : Sides} {left right : List ℕ} (w : Read
   shown h =
       record {
         from = w .from;
-        one = w .one .below;
-        other = w .other .below;
-        first = part-shows (w .one .fed);
-        second = part-shows (w .other .fed);
+        first-below = w .first .below;
+        second-below = w .second .below;
+        first = part-shows (w .first .fed);
+        second = part-shows (w .second .fed);
         real =
-            by-lt (getD left (m .left .at) 0) noStep (λ l. inl (real (w .one) l))
-            (λ l. inr (real (w .other) (omega (arith, w .lower))));
+            by-lt (getD left (m .left .at) 0) noStep (λ l. inl (real (w .first) l))
+            (λ l. inr (real (w .second) (omega (arith, w .lower))));
       }
 
   -- no step is to come
   pub ready-end : (op : Operation) → noStep ≤ m .next → resultToCome op s pay t tail m left right ≡ []
   ready-end op h =
-      let e = head-getD xs ∙ sym (front (w .one .fed) (w .one .shows)) in
-      let d = head-getD ys ∙ sym (front (w .other .fed) (w .other .shows)) in
-      merge-end noStep op (w .from) xs ys (w .one .below) (w .other .below) (omega (arith, e, w .lower)) (omega (arith, d, w .lower))
+      let e = head-getD xs ∙ sym (front (w .first .fed) (w .first .shows)) in
+      let d = head-getD ys ∙ sym (front (w .second .fed) (w .second .shows)) in
+      merge-end noStep op (w .from) xs ys (w .first .below) (w .second .below) (omega (arith, e, w .lower)) (omega (arith, d, w .lower))
 
   -- the result is not too long to be counted
   pub ready-few : (op : Operation) → length (resultToCome op s pay t tail m left right) ≤ noStep
   ready-few op =
-      length-result op xs ys noStep (omega (arith, beyond-le {o = 0} {p = w .from} xs (omega arith), w .one .below .small))
-      (omega (arith, beyond-le {o = 0} {p = w .from} ys (omega arith), w .other .below .small))
+      length-result op xs ys noStep (omega (arith, beyond-le {o = 0} {p = w .from} xs (omega arith), w .first .below .small))
+      (omega (arith, beyond-le {o = 0} {p = w .from} ys (omega arith), w .second .below .small))
 
   -- some turns, by what both feeds show
   module _ {op : Operation} {p : Progress} {kept : List ℕ} (g : Merges op numbers others p kept) where
     pub first-past : m .left .at + p .left ≤ m .left .end
     first-past =
-        omega (arith, g .first, w .one .shows, length-part left (m .left .at) (m .left .end) (w .one .fed .order) (w .one .fed .within))
+        omega (arith, g .first, w .first .shows, length-part left (m .left .at) (m .left .end) (w .first .fed .order) (w .first .fed .within))
 
     pub second-past : m .right .at + p .right ≤ m .right .end
     second-past =
-        omega (arith, g .second, w .other .shows, length-part right (m .right .at) (m .right .end) (w .other .fed .order) (w .other .fed .within))
+        omega (arith, g .second, w .second .shows, length-part right (m .right .at) (m .right .end) (w .second .fed .order) (w .second .fed .within))
 
     -- the feeds past the numbers that were taken
     module _ (f h : Feed) (ef : f ≡ past (m .left) (p .left)) (eh : h ≡ past (m .right) (p .right)) where
       pub first-stands : Stands s pay (f .walk) × ((f .at ≤ f .end) × (f .end ≤ length left))
       first-stands =
           subst (λ (v : Feed). Stands s pay (v .walk) × ((v .at ≤ v .end) × (v .end ≤ length left))) (sym ef)
-          (w .one .fed .stands, (first-past, w .one .fed .within))
+          (w .first .fed .stands, (first-past, w .first .fed .within))
 
       pub second-stands : Stands t tail (h .walk) × ((h .at ≤ h .end) × (h .end ≤ length right))
       second-stands =
           subst (λ (v : Feed). Stands t tail (v .walk) × ((v .at ≤ v .end) × (v .end ≤ length right))) (sym eh)
-          (w .other .fed .stands, (second-past, w .other .fed .within))
+          (w .second .fed .stands, (second-past, w .second .fed .within))
 
       module _ (a b : Feed) (left′ right′ : List ℕ)
           (u : ((zs : List ℕ) → Fed s pay f left zs → Fed s pay a left′ zs) × (a .at < a .end))
@@ -169,26 +169,26 @@ module _ {s pay t tail : List ℕ} {m : Sides} {left right : List ℕ} (w : Read
         pub first-fed : Fed s pay a left′ (drop (p .left) xs)
         first-fed =
             u .0 (drop (p .left) xs)
-            (subst (λ (v : Feed). Fed s pay v left (drop (p .left) xs)) (sym ef) (fed-past (w .one .fed) (p .left) (omega (arith, first-past))))
+            (subst (λ (v : Feed). Fed s pay v left (drop (p .left) xs)) (sym ef) (fed-past (w .first .fed) (p .left) (omega (arith, first-past))))
 
         pub second-fed : Fed t tail b right′ (drop (p .right) ys)
         second-fed =
             v .0 (drop (p .right) ys)
-            (subst (λ (v : Feed). Fed t tail v right (drop (p .right) ys)) (sym eh) (fed-past (w .other .fed) (p .right) (omega (arith, second-past))))
+            (subst (λ (v : Feed). Fed t tail v right (drop (p .right) ys)) (sym eh) (fed-past (w .second .fed) (p .right) (omega (arith, second-past))))
 
         -- A ROUND: each feed shows a number again
         pub round-goes : (next : ℕ) → m .next < noStep → next ≡ min (getD left′ (a .at) 0) (getD right′ (b .at) 0)
             → Goes op s pay t tail m left right (record { left = a; right = b; next = next; kept = p .kept }) left′ right′ kept
         round-goes next l e =
             let k = g .went xs ys (shown l) in
-            let ea = come-is (drop (p .left) xs) first-fed (k .one) (u .1) in
-            let eb = come-is (drop (p .right) ys) second-fed (k .other) (v .1) in
+            let ea = come-is (drop (p .left) xs) first-fed (k .first-below) (u .1) in
+            let eb = come-is (drop (p .right) ys) second-fed (k .second-below) (v .1) in
             record {
               ready =
                   record {
                     from = k .from;
-                    one = comes (drop (p .left) xs) first-fed (k .one) (u .1);
-                    other = comes (drop (p .right) ys) second-fed (k .other) (v .1);
+                    first = comes (drop (p .left) xs) first-fed (k .first-below) (u .1);
+                    second = comes (drop (p .right) ys) second-fed (k .second-below) (v .1);
                     lower = e;
                   };
               within = g .within;

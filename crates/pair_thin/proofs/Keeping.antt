@@ -33,4 +33,4 @@ module _ {out₀ vs out : List ℕ} {p : ℕ} {ws : List ℕ} (k : Keeping out�
   pub keeping-end : ws ≡ [] → (p ≡ length vs) × (p ≤ length out₀ → out ≡ vs ++ drop (length vs) out₀)
   keeping-end e =
       let n : p ≡ length vs = omega (arith, k .counted, ap length e) in
-      (n, λ h. let l : length vs ≤ length out₀ = omega arith in storing-end (k .stored l) e .1 ∙ sets-front out₀ vs l)
+      (n, λ h. let l : length vs ≤ length out₀ = omega arith in storing-end (k .stored l) e .stores ∙ sets-front out₀ vs l)

@@ -21,7 +21,7 @@ use Rattle.pair_operation.specs.declared.Operation.{Operation}
 use Rattle.pair_operation.specs.Result.{keeps, resultOf}
 use Rattle.pair_operation.specs.Merge.{headOf, pastOf, kept}
 use Rattle.pair_operation.proofs.Merging.{Below, past-below, merge-turn}
-use Rattle.pair_thin.specs.Shown.{Shown, Went, Merges}
+use Rattle.pair_thin.specs.Inside.Shown.{Shows, Shown, Went, Merges}
 
 -- ---- the first step of a list
 
@@ -53,9 +53,28 @@ lower-first x y =
     (λ h. eq-eqb x (min x y) (omega arith) ∙ sym (le-leb x y h))
 
 lower-second : (x y : ℕ) → eqb y (min x y) ≡ leb y x
-lower-second x y =
-    by-lt x y (λ h. ne-eqb y (min x y) (λ e. omega arith) ∙ sym (lt-leb y x h))
-    (λ h. eq-eqb y (min x y) (omega arith) ∙ sym (le-leb y x h))
+lower-second x y = let q : min x y ≡ min y x = omega arith in ap (eqb y) q ∙ lower-first y x
+
+-- ---- one side
+
+-- the number that comes next, after `i` that were taken, is the first of the steps that are left
+next-head : (numbers xs : List ℕ) → Shows numbers xs → (i x : ℕ) → i < length numbers → x ≡ getD numbers i 0 → headOf noStep (drop i xs) ≡ x
+next-head numbers xs shows i x h e = head-getD (drop i xs) ∙ sym (getD-first xs i noStep) ∙ sym (shows i h) ∙ sym e
+
+module _ (xs : List ℕ) (i : ℕ) {x : ℕ} (head : headOf noStep (drop i xs) ≡ x) where
+  -- it is taken where it is the step `m`
+  next-past : (m : ℕ) (b : Bool) → eqb x m ≡ b → pastOf m (drop i xs) ≡ drop (i + boolByte b) xs
+  next-past m b q =
+      past-drop m (drop i xs)
+      ∙ ap (λ (n : ℕ). drop (boolByte (eqb n m)) (drop i xs)) head
+      ∙ ap (λ (t : Bool). drop (boolByte t) (drop i xs)) q
+      ∙ drop-drop (boolByte b) i xs
+
+  -- and only steps are taken
+  next-most : (y : ℕ) → (x ≤ y → x < noStep) → i ≤ length xs → (b : Bool) → leb x y ≡ b → i + boolByte b ≤ length xs
+  next-most y low most true q =
+      omega (arith, head-some (drop i xs) (omega (arith, head, low (leb-true x y q))), length-drop i xs)
+  next-most y low most false q = omega (arith, most)
 
 -- a step that is stored after those kept is one of them if it is kept
 kept-stored : (b : Bool) (m k : ℕ) (out zs : List ℕ) → k < length out
@@ -72,45 +91,27 @@ kept-stored false m k out zs h =
 
 module _ (op : Operation) {left right xs ys : List ℕ} (s : Shown left right xs ys) where
   pub went-start : (out : List ℕ) → Went op xs ys 0 0 (take 0 out)
-  went-start out = record { from = s .from; one = s .one; other = s .other; first = omega arith; second = omega arith; is = refl }
+  went-start out = record { from = s .from; first-below = s .first-below; second-below = s .second-below; first = omega arith; second = omega arith; is = refl }
 
   module _ {i j : ℕ} {ks : List ℕ} (w : Went op xs ys i j ks) {x y : ℕ} (hi : i < length left) (hj : j < length right)
       (ex : x ≡ getD left i 0) (ey : y ≡ getD right j 0) where
     head-first : headOf noStep (drop i xs) ≡ x
-    head-first = head-getD (drop i xs) ∙ sym (getD-first xs i noStep) ∙ sym (s .first i hi) ∙ sym ex
+    head-first = next-head left xs (s .first) i x hi ex
 
     head-second : headOf noStep (drop j ys) ≡ y
-    head-second = head-getD (drop j ys) ∙ sym (getD-first ys j noStep) ∙ sym (s .second j hj) ∙ sym ey
+    head-second = next-head right ys (s .second) j y hj ey
 
     -- the lower of the two is a step
     low : min x y < noStep
     low =
-        ⊎-elim (λ h. omega (arith, head-first, head-lt (w .from) (drop i xs) (w .one) (omega (arith, length-drop i xs))))
-        (λ h. omega (arith, head-second, head-lt (w .from) (drop j ys) (w .other) (omega (arith, length-drop j ys)))) (s .real)
+        ⊎-elim (λ h. omega (arith, head-first, head-lt (w .from) (drop i xs) (w .first-below) (omega (arith, length-drop i xs))))
+        (λ h. omega (arith, head-second, head-lt (w .from) (drop j ys) (w .second-below) (omega (arith, length-drop j ys)))) (s .real)
 
     past-first : pastOf (min x y) (drop i xs) ≡ drop (i + boolByte (leb x y)) xs
-    past-first =
-        past-drop (min x y) (drop i xs)
-        ∙ ap (λ (n : ℕ). drop (boolByte (eqb n (min x y))) (drop i xs)) head-first
-        ∙ ap (λ (b : Bool). drop (boolByte b) (drop i xs)) (lower-first x y)
-        ∙ drop-drop (boolByte (leb x y)) i xs
+    past-first = next-past xs i head-first (min x y) (leb x y) (lower-first x y)
 
     past-second : pastOf (min x y) (drop j ys) ≡ drop (j + boolByte (leb y x)) ys
-    past-second =
-        past-drop (min x y) (drop j ys)
-        ∙ ap (λ (n : ℕ). drop (boolByte (eqb n (min x y))) (drop j ys)) head-second
-        ∙ ap (λ (b : Bool). drop (boolByte b) (drop j ys)) (lower-second x y)
-        ∙ drop-drop (boolByte (leb y x)) j ys
-
-    most-first : (b : Bool) → leb x y ≡ b → i + boolByte b ≤ length xs
-    most-first true e =
-        omega (arith, head-some (drop i xs) (omega (arith, head-first, low, leb-true x y e)), length-drop i xs)
-    most-first false e = omega (arith, w .first)
-
-    most-second : (b : Bool) → leb y x ≡ b → j + boolByte b ≤ length ys
-    most-second true e =
-        omega (arith, head-some (drop j ys) (omega (arith, head-second, low, leb-true y x e)), length-drop j ys)
-    most-second false e = omega (arith, w .second)
+    past-second = next-past ys j head-second (min x y) (leb y x) (lower-second x y)
 
     -- what the operation says of the lower number, and then the result of what both sides have past it
     turn-is : resultOf op (drop i xs) (drop j ys)
@@ -118,7 +119,7 @@ module _ (op : Operation) {left right xs ys : List ℕ} (s : Shown left right xs
     turn-is =
         let m = min x y in
         let zs : List ℕ = resultOf op (pastOf m (drop i xs)) (pastOf m (drop j ys)) in
-        merge-turn noStep (w .from) m low op (drop i xs) (drop j ys) (w .one) (w .other) (omega (arith, head-first)) (omega (arith, head-second))
+        merge-turn noStep (w .from) m low op (drop i xs) (drop j ys) (w .first-below) (w .second-below) (omega (arith, head-first)) (omega (arith, head-second))
         ∙ ap (λ (n : ℕ). kept (keeps op (eqb n m) (eqb (headOf noStep (drop j ys)) m)) m zs) head-first
         ∙ ap (λ (n : ℕ). kept (keeps op (eqb x m) (eqb n m)) m zs) head-second
         ∙ ap (λ (b : Bool). kept (keeps op b (eqb y m)) m zs) (lower-first x y)
@@ -135,14 +136,14 @@ module _ (op : Operation) {left right xs ys : List ℕ} (s : Shown left right xs
         let zs : List ℕ = resultOf op (drop i′ xs) (drop j′ ys) in
         record {
           from = suc (min x y);
-          one =
+          first-below =
               subst (Below (suc (min x y)) noStep) past-first
-              (past-below noStep (w .from) (min x y) low (drop i xs) (w .one) (omega (arith, head-first)));
-          other =
+              (past-below noStep (w .from) (min x y) low (drop i xs) (w .first-below) (omega (arith, head-first)));
+          second-below =
               subst (Below (suc (min x y)) noStep) past-second
-              (past-below noStep (w .from) (min x y) low (drop j ys) (w .other) (omega (arith, head-second)));
-          first = most-first (leb x y) refl;
-          second = most-second (leb y x) refl;
+              (past-below noStep (w .from) (min x y) low (drop j ys) (w .second-below) (omega (arith, head-second)));
+          first = next-most xs i head-first y (λ k. omega (arith, low)) (w .first) (leb x y) refl;
+          second = next-most ys j head-second x (λ k. omega (arith, low)) (w .second) (leb y x) refl;
           is =
               w .is
               ∙ ap (λ (l : List ℕ). ks ++ l) turn-is
@@ -173,8 +174,8 @@ pub record Going (op : Operation) (left right kept₀ kept : List ℕ) (x y i j 
   pub first : i < t
   pub second : j < t
   pub few : k < t
-  pub one : x ≡ getD left i 0
-  pub other : y ≡ getD right j 0
+  pub first-next : x ≡ getD left i 0
+  pub second-next : y ≡ getD right j 0
   pub went : (xs ys : List ℕ) → Shown left right xs ys → Went op xs ys i j (take k kept)
 
 pub going-start : (op : Operation) (left right kept : List ℕ) → Going op left right kept kept (getD left 0 0) (getD right 0 0) 0 0 0 1
@@ -184,8 +185,8 @@ going-start op left right kept =
       first = omega arith;
       second = omega arith;
       few = omega arith;
-      one = refl;
-      other = refl;
+      first-next = refl;
+      second-next = refl;
       went = λ xs ys s. went-start op s kept;
     }
 
@@ -195,7 +196,7 @@ module _ {op : Operation} {left right kept₀ kept : List ℕ} {x y i j k t : �
   turn-went : (xs ys : List ℕ) → Shown left right xs ys
       → Went op xs ys (i + boolByte (leb x y)) (j + boolByte (leb y x)) (take (k + boolByte b) (set kept k m))
   turn-went xs ys s =
-      went-turn op s (g .went xs ys s) (omega (arith, g .first)) (omega (arith, g .second)) (g .one) (g .other) k (k + boolByte b) kept (set kept k m)
+      went-turn op s (g .went xs ys s) (omega (arith, g .first)) (omega (arith, g .second)) (g .first-next) (g .second-next) k (k + boolByte b) kept (set kept k m)
       refl (omega (arith, g .few, g .same)) (ap (λ (c : Bool). k + boolByte c) eb) (ap (set kept k) em)
 
   -- a turn, and the next is another
@@ -207,8 +208,8 @@ module _ {op : Operation} {left right kept₀ kept : List ℕ} {x y i j k t : �
         first = omega (arith, g .first, bool-most (leb x y));
         second = omega (arith, g .second, bool-most (leb y x));
         few = omega (arith, g .few, bool-most b);
-        one = ex ∙ next-number (leb x y) left i x (g .one);
-        other = ey ∙ next-number (leb y x) right j y (g .other);
+        first-next = ex ∙ next-number (leb x y) left i x (g .first-next);
+        second-next = ey ∙ next-number (leb y x) right j y (g .second-next);
         went = turn-went;
       }
 

@@ -1,3 +1,2 @@
-pub mod Shown
-pub mod Round
 pub mod Counts
+pub mod Inside

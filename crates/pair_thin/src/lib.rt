@@ -4,20 +4,21 @@
 
 ghost use mathlib.Core.Path.{_≡_};
 ghost use mathlib.Core.List.{_++_};
-ghost use Prim.Native.Nat.{_+_, _^_, _≤_, _<_, min};
+ghost use Prim.Native.Nat.{_+_, _≤_, _<_};
 ghost use lib.ListN.{length, drop};
 ghost use lib.Seq.{sets};
 ghost use Rattle.lists.specs.Choice.{pick};
+ghost use Rattle.lists.specs.Stores.{Brief};
 ghost use Rattle.rules.specs.Limits.{noStep};
 ghost use Rattle.image.specs.Taken.{stepsOf, Taken, payloadIn};
 ghost use Rattle.pair_operation.specs.Result.{resultOf};
-ghost use Rattle.pair_thin.specs.Shown.{Merges};
-ghost use Rattle.pair_thin.specs.Round.{Small, Ready, toCome, Goes};
+ghost use Rattle.pair_thin.specs.Inside.Shown.{Merges};
+ghost use Rattle.pair_thin.specs.Inside.Round.{Small, Ready, toCome, Goes};
 ghost use Rattle.pair_thin.specs.Counts.{Counts};
 use pair_feed::Feed;
 use pair_operation::Operation;
 
-// The numbers of a buffer.
+// The numbers of a buffer. Free: measured; no proof depends on it.
 const BATCH: usize = 256;
 
 // How many numbers some turns of a merge took of each side, and how many steps they kept.
@@ -35,15 +36,6 @@ struct Sides {
     kept: usize,
 }
 
-fn lower(x: usize, y: usize) -> usize
-    ensures { λ r. ⌜ r ≡ min x y ⌝ }
-{
-    if x < y {
-        return x;
-    }
-    y
-}
-
 // The first where the test holds, else the second.
 fn chosen(test: bool, x: usize, y: usize) -> usize
     ensures { λ r. ⌜ r ≡ pick test x y ⌝ }
@@ -58,10 +50,10 @@ fn chosen(test: bool, x: usize, y: usize) -> usize
 // the same, and stores it where the next kept step goes: it stays there if the operation keeps it. The numbers after those are read before the
 // test, so that no turn waits for them, and widened, since some compilers make a jump of a choice that has a number in memory on one side.
 fn turns<'a>(op: Operation, left: &'a [u32], right: &'a [u32], kept: &mut [u32]) -> Progress
-    requires { ⌜ (0 < length (now left)) × ((0 < length (now right)) × ((length (now left) ≤ length (now kept)) × (length (now left) < 2 ^ 20))) ⌝ }
+    requires { ⌜ (0 < length (now left)) × ((0 < length (now right)) × ((length (now left) ≤ length (now kept)) × Brief (now left))) ⌝ }
     ensures { λ r. ⌜ Merges op (now (left .entry)) (now (right .entry)) r (now (kept .exit)) ⌝ }
 {
-    let n = lower(left.len(), right.len());
+    let n = rules::lower(left.len(), right.len());
     let mut x = left[0] as usize;
     let mut y = right[0] as usize;
     let mut i: usize = 0;
@@ -71,23 +63,23 @@ fn turns<'a>(op: Operation, left: &'a [u32], right: &'a [u32], kept: &mut [u32])
     while t < n {
         let after_x = left[i + 1] as usize;
         let after_y = right[j + 1] as usize;
-        let one = x <= y;
-        let other = y <= x;
-        kept[k] = lower(x, y) as u32;
-        k += pair_operation::keeps(op, one, other) as usize;
-        i += one as usize;
-        j += other as usize;
-        x = chosen(one, after_x, x);
-        y = chosen(other, after_y, y);
+        let in_left = x <= y;
+        let in_right = y <= x;
+        kept[k] = rules::lower(x, y) as u32;
+        k += pair_operation::keeps(op, in_left, in_right) as usize;
+        i += in_left as usize;
+        j += in_right as usize;
+        x = chosen(in_left, after_x, x);
+        y = chosen(in_right, after_y, y);
         t += 1;
     }
-    let one = x <= y;
-    let other = y <= x;
-    kept[k] = lower(x, y) as u32;
-    k += pair_operation::keeps(op, one, other) as usize;
+    let in_left = x <= y;
+    let in_right = y <= x;
+    kept[k] = rules::lower(x, y) as u32;
+    k += pair_operation::keeps(op, in_left, in_right) as usize;
     Progress {
-        left: i + (one as usize),
-        right: j + (other as usize),
+        left: i + (in_left as usize),
+        right: j + (in_right as usize),
         kept: k,
     }
 }
@@ -110,25 +102,25 @@ fn start<'a>(
     left: &mut [u32],
     right: &mut [u32],
     first: &'a [u8],
-    one: &'a [u8],
+    first_payload: &'a [u8],
     second: &'a [u8],
-    other: &'a [u8],
+    second_payload: &'a [u8],
 ) -> Sides
-    requires { ⌜ Taken (now first) × (now one ≡ payloadIn (now first)) ⌝ }
-    requires { ⌜ Taken (now second) × (now other ≡ payloadIn (now second)) ⌝ }
+    requires { ⌜ Taken (now first) × (now «first_payload» ≡ payloadIn (now first)) ⌝ }
+    requires { ⌜ Taken (now second) × (now «second_payload» ≡ payloadIn (now second)) ⌝ }
     requires { ⌜ Small (now left) × Small (now right) ⌝ }
-    ensures { λ r. ⌜ Ready (now (first .entry)) (now (one .entry)) (now (second .entry)) (now (other .entry)) r (now (left .exit)) (now (right .exit))
-        × ((toCome (now (first .entry)) (now (one .entry)) (r .left) (now (left .exit)) ≡ stepsOf (now (first .entry)))
-        × (toCome (now (second .entry)) (now (other .entry)) (r .right) (now (right .exit)) ≡ stepsOf (now (second .entry)))) ⌝ }
+    ensures { λ r. ⌜ Ready (now (first .entry)) (now («first_payload» .entry)) (now (second .entry)) (now («second_payload» .entry)) r (now (left .exit)) (now (right .exit))
+        × ((toCome (now (first .entry)) (now («first_payload» .entry)) (r .left) (now (left .exit)) ≡ stepsOf (now (first .entry)))
+        × (toCome (now (second .entry)) (now («second_payload» .entry)) (r .right) (now (right .exit)) ≡ stepsOf (now (second .entry)))) ⌝ }
 {
-    let a = pair_feed::first(left, first, one);
-    let b = pair_feed::first(right, second, other);
+    let a = pair_feed::first(left, first, first_payload);
+    let b = pair_feed::first(right, second, second_payload);
     let i = a.at;
     let j = b.at;
     Sides {
         left: a,
         right: b,
-        next: lower(left[i] as usize, right[j] as usize),
+        next: rules::lower(left[i] as usize, right[j] as usize),
         kept: 0,
     }
 }
@@ -141,13 +133,13 @@ fn round<'a>(
     right: &mut [u32],
     kept: &mut [u32],
     first: &'a [u8],
-    one: &'a [u8],
+    first_payload: &'a [u8],
     second: &'a [u8],
-    other: &'a [u8],
+    second_payload: &'a [u8],
 ) -> Sides
-    requires { ⌜ Ready (now first) (now one) (now second) (now other) m (now left) (now right) × (m .next < noStep) ⌝ }
+    requires { ⌜ Ready (now first) (now «first_payload») (now second) (now «second_payload») m (now left) (now right) × (m .next < noStep) ⌝ }
     requires { ⌜ (Small (now left) × Small (now right)) × (length (now left) ≤ length (now kept)) ⌝ }
-    ensures { λ r. ⌜ Goes op (now (first .entry)) (now (one .entry)) (now (second .entry)) (now (other .entry)) m (now (left .entry))
+    ensures { λ r. ⌜ Goes op (now (first .entry)) (now («first_payload» .entry)) (now (second .entry)) (now («second_payload» .entry)) m (now (left .entry))
         (now (right .entry)) r (now (left .exit)) (now (right .exit)) (now (kept .exit)) ⌝ }
 {
     let x = m.left;
@@ -157,14 +149,14 @@ fn round<'a>(
     let from = y.at;
     let upto = y.end;
     let t = turns(op, &left[at..end], &right[from..upto], kept);
-    let a = pair_feed::more(passed(x, t.left), left, first, one);
-    let b = pair_feed::more(passed(y, t.right), right, second, other);
+    let a = pair_feed::more(passed(x, t.left), left, first, first_payload);
+    let b = pair_feed::more(passed(y, t.right), right, second, second_payload);
     let i = a.at;
     let j = b.at;
     Sides {
         left: a,
         right: b,
-        next: lower(left[i] as usize, right[j] as usize),
+        next: rules::lower(left[i] as usize, right[j] as usize),
         kept: t.kept,
     }
 }
@@ -201,13 +193,23 @@ fn store_with<'a>(
     requires { ⌜ (Small (now left) × Small (now right)) × (length (now left) ≤ length (now kept)) ⌝ }
     ensures { λ r. ⌜ Counts op (now (first .entry)) (now (second .entry)) (now (steps .entry)) r (now (steps .exit)) ⌝ }
 {
-    let end = (rules::largest_step() as usize) + 1;
-    let one = image_walk::payload(first);
-    let other = image_walk::payload(second);
-    let mut m = start(left, right, first, one, second, other);
+    let end = rules::no_step();
+    let first_payload = image_directory::payload(first);
+    let second_payload = image_directory::payload(second);
+    let mut m = start(left, right, first, first_payload, second, second_payload);
     let mut n: usize = 0;
     while m.next < end {
-        m = round(op, m, left, right, kept, first, one, second, other);
+        m = round(
+            op,
+            m,
+            left,
+            right,
+            kept,
+            first,
+            first_payload,
+            second,
+            second_payload,
+        );
         let k = m.kept;
         put(&kept[..k], steps, n);
         n += k;

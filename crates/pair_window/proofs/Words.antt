@@ -3,9 +3,9 @@
 use mathlib.Core.Path.{_≡_, refl, sym, ap, ap₂, _∙_}
 use mathlib.Core.Bool.{Bool, true, false, _||_}
 use mathlib.Core.List.{List, [], _∷_, _++_}
-use Prim.Native.Nat.{ℕ, zero, suc, _+_, _*_, _/_, _%_, _≤_, _<_, max}
+use Prim.Native.Nat.{ℕ, zero, suc, _+_, _*_, _≤_, _<_}
 use native.Mathlib.Omega.{arith}
-use lib.Bits.{bitOr, or-step}
+use lib.Bits.{bitOr}
 use lib.ListN.{length, getD, replicate}
 use lib.Seq.{ext-getD}
 use Rattle.lists.specs.Choice.{pick}
@@ -15,6 +15,7 @@ use Rattle.row.specs.Row.{bitsOf}
 use Rattle.row.specs.Words.{wordBits}
 use Rattle.row.proofs.Written.{bits-of-none, bits-of-same}
 use Rattle.pair_window.specs.Window.{wordsFrom}
+use Rattle.pair_window.proofs.Digits.{or-digits}
 
 -- ---- the words, one by one
 
@@ -60,17 +61,6 @@ words-empty zero o = words-none o []
 words-empty (suc k) o = words-cons k o [] ∙ ap₂ (λ (v : ℕ) (l : List ℕ). v ∷ l) (bits-of-none wordBits o [] tt) (words-empty k (o + wordBits))
 
 -- ---- more steps over those that are there
-
-pub or-digits : (a b x y : ℕ) → x < 2 → y < 2 → bitOr (x + 2 * a) (y + 2 * b) ≡ max x y + 2 * bitOr a b
-or-digits a b x y h g =
-    let p : (x + 2 * a) / 2 ≡ a = omega arith in
-    let q : (y + 2 * b) / 2 ≡ b = omega arith in
-    let r : (x + 2 * a) % 2 ≡ x = omega arith in
-    let s : (y + 2 * b) % 2 ≡ y = omega arith in
-    or-step (x + 2 * a) (y + 2 * b)
-    ∙ ap₂ (λ (n m : ℕ). bitOr n m * 2 + max ((x + 2 * a) % 2) ((y + 2 * b) % 2)) p q
-    ∙ ap₂ (λ (n m : ℕ). bitOr a b * 2 + max n m) r s
-    ∙ omega arith
 
 pub bits-of-append : (k o : ℕ) (xs ys : List ℕ) → bitOr (bitsOf k o xs) (bitsOf k o ys) ≡ bitsOf k o (xs ++ ys)
 unfolding bitsOf

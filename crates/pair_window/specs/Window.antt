@@ -15,6 +15,6 @@ wordsFrom (suc k) o xs = bitsOf wordBits o xs ∷ wordsFrom k (o + wordBits) xs
 abbrev pub Gains : ℕ → List ℕ → List ℕ → List ℕ → Type 0
 Gains o words new words′ = (xs : List ℕ) → words ≡ wordsFrom (length words) o xs → words′ ≡ wordsFrom (length words) o (xs ++ new)
 
--- the same whatever the window's first step is, which the new ones go by
+-- they gain them whatever the window's first step is, which the new ones go by
 abbrev pub Adds : List ℕ → (ℕ → List ℕ) → List ℕ → Type 0
 Adds words new words′ = (o : ℕ) → Gains o words (new o) words′

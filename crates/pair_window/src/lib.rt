@@ -2,18 +2,18 @@
 // those that are there, so that steps may come more than once.
 
 ghost use mathlib.Core.List.{[], _∷_};
-ghost use Prim.Native.Nat.{ℕ, _+_, _*_, _^_, _<_};
+ghost use Prim.Native.Nat.{ℕ, _+_, _*_, _<_};
 ghost use lib.ListN.{length};
+ghost use Rattle.lists.specs.Stores.{Brief};
 ghost use Rattle.row.specs.Row.{bitsFrom};
 ghost use Rattle.row.specs.Words.{wordBits};
 ghost use Rattle.pair_window.specs.Window.{Adds};
-
-const WORD_BITS: usize = 64;
+use row::WORD_BITS;
 
 // Lays 64 bits, the first of which stands for the step `place` places after the window's first, into a window; what falls past its end
 // is left out. Two shifts make the bits of the next word, since one of 64 places is none.
 pub fn lay(words: &mut [usize], place: usize, bits: usize)
-    requires { ⌜ (place < wordBits * length (now words)) × (length (now words) < 2 ^ 20) ⌝ }
+    requires { ⌜ (place < wordBits * length (now words)) × Brief (now words) ⌝ }
     ensures { λ _. ⌜ Adds (now (words .entry)) (λ (o : ℕ). bitsFrom wordBits (o + place) bits) (now (words .exit)) ⌝ }
 {
     let i = place / WORD_BITS;
@@ -27,7 +27,7 @@ pub fn lay(words: &mut [usize], place: usize, bits: usize)
 
 // Marks the step `place` places after the window's first.
 pub fn mark(words: &mut [usize], place: usize)
-    requires { ⌜ (place < wordBits * length (now words)) × (length (now words) < 2 ^ 20) ⌝ }
+    requires { ⌜ (place < wordBits * length (now words)) × Brief (now words) ⌝ }
     ensures { λ _. ⌜ Adds (now (words .entry)) (λ (o : ℕ). (o + place) ∷ []) (now (words .exit)) ⌝ }
 {
     let i = place / WORD_BITS;

@@ -10,8 +10,8 @@ use Rattle.lists.specs.Rising.{Rising, past}
 use Rattle.lists.proofs.Choice.{by-lt}
 use Rattle.lists.proofs.Ranks.{past-le}
 use Rattle.row.specs.Row.{byteBits, rowSize}
-use Rattle.plan.specs.Ahead.{bytesAt, codesAt, reachAt, rowAt}
-use Rattle.plan.specs.Work.{CodesEnd, RowEnd}
+use Rattle.plan.specs.Inside.Ahead.{bytesAt, codesAt, reachAt, rowAt}
+use Rattle.plan.specs.Inside.Work.{CodesEnd, RowEnd}
 use Rattle.plan.proofs.Scans.{upward, stopped-lt}
 use Rattle.plan.proofs.Costs.{codesTo, codes-append}
 use Rattle.plan.proofs.Ranks.{codes-step, reach-step, codes-end, bytes-end, reach-end}

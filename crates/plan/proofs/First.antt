@@ -15,9 +15,9 @@ use Rattle.cut.specs.BestCut.{least}
 use Rattle.cut.specs.Values.{Reaches, Minimum, Value}
 use Rattle.cut.proofs.Values.{value-least, value-step}
 use Rattle.plan.specs.Cost.{cost}
-use Rattle.plan.specs.Ahead.{bytesAt, codesAt, reachAt, rowAt}
+use Rattle.plan.specs.Inside.Ahead.{bytesAt, codesAt, reachAt, rowAt}
 use Rattle.plan.specs.Planned.{wordOf}
-use Rattle.plan.specs.Work.{CodesEnd, RowEnd, Chosen}
+use Rattle.plan.specs.Inside.Work.{CodesEnd, RowEnd, Chosen}
 use Rattle.plan.proofs.Scans.{stops-some}
 use Rattle.plan.proofs.Costs.{cost-row}
 use Rattle.plan.proofs.Ranks.{bytes-step, bytes-end}

@@ -12,7 +12,7 @@ use Rattle.cut.specs.BestCut.{bestCut}
 use Rattle.cut.proofs.BestCut.{best-cut-end}
 use Rattle.plan.specs.Cost.{cost}
 use Rattle.plan.specs.Planned.{cutOf, Marked}
-use Rattle.plan.specs.Work.{Kept, Ready, Chosen}
+use Rattle.plan.specs.Inside.Work.{Kept, Ready, Chosen}
 use Rattle.plan.proofs.Walk.{word-upto}
 use Rattle.plan.proofs.Passes.{kept-none, kept-set}
 

@@ -16,8 +16,8 @@ use Rattle.code.specs.Code.{codeSize}
 use Rattle.code.specs.Code.Laws.{size-most}
 use Rattle.row.specs.Row.{byteBits}
 use Rattle.plan.specs.declared.Turn.{Turn}
-use Rattle.plan.specs.Ahead.{mostAhead, rowBits, turned, codesAt, reachAt, rowAt}
-use Rattle.plan.specs.Work.{Kept, Sized, Ready}
+use Rattle.plan.specs.Inside.Ahead.{mostAhead, rowBits, turned, codesAt, reachAt, rowAt}
+use Rattle.plan.specs.Inside.Work.{Kept, Sized, Ready}
 use Rattle.plan.proofs.Ranks.{codes-end, reach-end, codes-turn, reach-turn, Fits, fits}
 
 -- ---- what is kept

@@ -17,8 +17,8 @@ use Rattle.rules.specs.Listed.{Listed}
 use Rattle.code.specs.Code.{codeSize}
 use Rattle.code.specs.Code.Laws.{size-most}
 use Rattle.row.specs.Row.{byteBits, rowSize}
-use Rattle.plan.specs.Ahead.{mostAhead, Ahead, grown, aheadOf, aheadAt, bytesAt, codesAt, reachAt, rowAt}
-use Rattle.plan.specs.Work.{GoesOn}
+use Rattle.plan.specs.Inside.Ahead.{mostAhead, Ahead, grown, aheadOf, aheadAt, bytesAt, codesAt, reachAt, rowAt}
+use Rattle.plan.specs.Inside.Work.{GoesOn}
 use Rattle.plan.proofs.Costs.{codesTo, codes-one}
 use Rattle.plan.proofs.Scans.{upward}
 

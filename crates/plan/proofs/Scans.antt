@@ -6,7 +6,7 @@ use native.Mathlib.Omega.{arith}
 use native.Mathlib.Numerals.{add-one}
 use borrow.Author.Count.{below-more}
 use Rattle.lists.proofs.Choice.{by-lt}
-use Rattle.plan.specs.Work.{Scanning, Stops}
+use Rattle.plan.specs.Inside.Work.{Scanning, Stops}
 
 -- what holds from the rank after `i` on
 pub upward : (P : ℕ → Type 0) (i : ℕ) → P (i + 1) → ((j : ℕ) → i < j → P j → P (j + 1)) → (j : ℕ) → i < j → P j
@@ -37,7 +37,7 @@ module _ {On : ℕ → Type 0} {n i : ℕ} where
       passed = λ u a b. by-lt u j (λ g. s .passed u g b) (λ g. f u g a);
     }
 
-    -- the same, said otherwise
+    -- what a scan passed, said otherwise
     pub scan-as : {Q : ℕ → Type 0} → ((u : ℕ) → On u → Q u) → Scanning Q n i j
     scan-as f = record { after = s .after; within = s .within; passed = λ u a b. f u (s .passed u a b) }
 

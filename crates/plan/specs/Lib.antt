@@ -1,4 +1,3 @@
 pub mod Cost
-pub mod Ahead
 pub mod Planned
-pub mod Work
+pub mod Inside

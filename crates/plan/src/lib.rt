@@ -14,27 +14,24 @@ ghost use Rattle.rules.specs.Limits.{mostSteps};
 ghost use Rattle.rules.specs.Sizes.{entrySize, workFor};
 ghost use Rattle.rules.specs.Listed.{Listed};
 ghost use Rattle.row.specs.Row.{rowSize};
-ghost use Rattle.plan.specs.Ahead.{mostAhead, turned, bytesAt, rowAt};
+ghost use Rattle.plan.specs.Inside.Ahead.{mostAhead, turned, bytesAt, rowAt};
 ghost use Rattle.plan.specs.Planned.{Planned, Marked, cutOf};
-ghost use Rattle.plan.specs.Work.{Kept, Sized, Ready, stride, Scanning, GoesOn, AllGoOn, CodesEnd, RowEnd, Chosen, Covered};
+ghost use Rattle.plan.specs.Inside.Work.{Kept, Sized, Ready, stride, Scanning, GoesOn, AllGoOn, CodesEnd, RowEnd, Chosen, Covered};
 
-const BYTE_BITS: u32 = 8;
+// Document 01: the bits of a byte, in the width of the work area's numbers.
+const BYTE_BITS: u32 = row::BYTE_BITS as u32;
 
+// Document 01: the bytes of an entry, in the width of the work area's numbers.
 const ENTRY_SIZE: u32 = rules::ENTRY_SIZE as u32;
 
-// The bits of an entry's bytes.
+// Document 01: the bits of an entry's bytes.
 const ENTRY_BITS: u32 = BYTE_BITS * ENTRY_SIZE;
 
-// What a row adds to its span before the bits are counted in bytes: its entry, and the most that pads it.
+// Document 01: what a row adds to its span before the bits are counted in bytes: its entry, and the most that pads it.
 const ROW_BITS: u32 = ENTRY_BITS + (BYTE_BITS - 1);
 
-// The ranks that a look for the end of a block passes at once.
+// Free: measured; the proofs know it as `stride`. The ranks that a look for the end of a block passes at once.
 const STRIDE: usize = 16;
-
-// The kinds of a block.
-const CODES: usize = 0;
-
-const ROW: usize = 1;
 
 // The totals of the best cut of a list: how many blocks it has, and their bytes, entries included.
 pub struct Totals {
@@ -262,17 +259,17 @@ fn choice(list: &[u32], work: &[u32], i: usize) -> u32
     let codes = work[list.len() + i];
     let row = row_at(list, work, i);
     if codes < row {
-        return word(codes_end(list, work, i), CODES);
+        return word(codes_end(list, work, i), rules::CODES);
     }
     let upto = row_end(list, work, i, row);
     if row < codes {
-        return word(upto, ROW);
+        return word(upto, rules::ROW);
     }
     let other = codes_end(list, work, i);
     if other < upto {
-        return word(upto, ROW);
+        return word(upto, rules::ROW);
     }
-    word(other, CODES)
+    word(other, rules::CODES)
 }
 
 // Going forward, puts the word of each block of the best cut at i, where the block begins at rank i; gives the number of blocks.

@@ -132,4 +132,4 @@ module _ {s pay : List ℕ} {m : ℕ} {out₀ out : List ℕ} {b : Before} {i p 
         }
 
   pub putting-end : m ≤ i → out ≡ sets out₀ 0 (listIn (blocksOf pay start 0 (entriesAt m s (entryPlace 0))))
-  putting-end h = storing-end (c .stores) (ap listIn (blocks-end s pay m b i (omega (arith, c .ahead .within)))) .1
+  putting-end h = storing-end (c .stores) (ap listIn (blocks-end s pay m b i (omega (arith, c .ahead .within)))) .stores

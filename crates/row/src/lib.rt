@@ -10,16 +10,19 @@ ghost use Rattle.rules.specs.Numbers.{little};
 ghost use Rattle.row.specs.Row.{bitsFrom, rowSteps, rowSize, kthOne};
 ghost use Rattle.row.specs.Words.{wordBytes, wordBits};
 
-// The bits of a byte.
+// Document 01: the bits of a byte.
 pub const BYTE_BITS: usize = 8;
 
-// A word is eight bytes that are read at once.
+// Document 01: the values of a byte.
+pub const BYTE_VALUES: usize = 256;
+
+// Free: as many as a processor loads at once; the proofs know it as `wordBytes`. A word is eight bytes that are read at once.
 pub const WORD_BYTES: usize = 8;
 
-// The bits of a word.
+// Free: it follows from the bytes of a word. The bits of a word.
 pub const WORD_BITS: usize = 64;
 
-// The values that half a word has.
+// Free: it follows from the bytes of a word. The values that half a word has.
 const HALF_VALUES: usize = 4294967296;
 
 // The word of eight bytes at a place, the lowest first.
@@ -39,7 +42,7 @@ pub fn last_word(s: &[u8], at: usize) -> usize
     let mut i = s.len();
     while at < i {
         i -= 1;
-        word = rules::wide(s[i]) + 256 * word;
+        word = rules::wide(s[i]) + BYTE_VALUES * word;
     }
     word
 }

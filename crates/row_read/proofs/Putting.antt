@@ -5,9 +5,9 @@ use mathlib.Core.List.{List, [], _++_, append-nil}
 use Prim.Native.Nat.{ℕ, _+_, _*_, _^_, _≤_, _<_}
 use native.Mathlib.Omega.{arith}
 use lib.ListN.{length, take, drop, length-drop, length-append}
-use lib.Seq.{sets}
 use Rattle.lists.specs.Rising.{beyond}
 use Rattle.lists.specs.Bytes.{Bytes}
+use Rattle.lists.specs.Stores.{Puts}
 use Rattle.lists.proofs.Stores.{Storing, storing-start, storing-same, storing-run, storing-end}
 use Rattle.rules.specs.Numbers.{little}
 use Rattle.row.specs.Row.{byteBits, bitsFrom, rowSteps}
@@ -15,7 +15,7 @@ use Rattle.row.specs.Words.{wordBytes, wordBits}
 use Rattle.row.proofs.Bits.{beyond-bits}
 use Rattle.row.proofs.Row.{rowLeft, row-start, beyond-row-most}
 use Rattle.row.proofs.Words.{row-word, row-rest}
-use Rattle.row_word.specs.Groups.{groupBits, Loose}
+use Rattle.row_word.specs.Groups.{groupBits, PutsLoose}
 use Rattle.row_word.proofs.Loosely.{Loosely, loosely-start, loosely-run, loosely-end, exact-loose}
 
 -- ---- where nothing else changes
@@ -36,10 +36,6 @@ wordSteps o i v = bitsFrom wordBits (o + byteBits * i) v
 abbrev pub Room : ℕ → ℕ → ℕ → List ℕ → ℕ → Type 0
 Room o i v out k = (beyond (o + byteBits * i) (wordSteps o i v) ≤ 2 ^ 32) × (k + length (wordSteps o i v) ≤ length out)
 
--- they were stored there
-abbrev pub Stored : ℕ → ℕ → ℕ → List ℕ → ℕ → List ℕ → ℕ → Type 0
-Stored o i v out k out′ k′ = (k′ ≡ k + length (wordSteps o i v)) × (out′ ≡ sets out k (wordSteps o i v))
-
 module _ {s : List ℕ} {o : ℕ} {out₀ : List ℕ} {at : ℕ} {out : List ℕ} {i k : ℕ} (p : Putting s o out₀ at out i k) (w : Bytes s) (v : ℕ) where
   -- one word more
   module _ (h : i + wordBytes ≤ length s) (e : v ≡ little (take wordBytes (drop i s))) where
@@ -50,10 +46,10 @@ module _ {s : List ℕ} {o : ℕ} {out₀ : List ℕ} {at : ℕ} {out : List ℕ
         in
         (omega (arith, beyond-bits wordBits (o + byteBits * i) v), omega (arith, p .storing .room))
 
-    pub putting-turn : {out′ : List ℕ} {k′ : ℕ} → Stored o i v out k out′ k′ → Putting s o out₀ at out′ (i + wordBytes) k′
+    pub putting-turn : {out′ : List ℕ} {k′ : ℕ} → Puts out k (wordSteps o i v) out′ k′ → Putting s o out₀ at out′ (i + wordBytes) k′
     putting-turn r = record {
       few = h;
-      storing = storing-run (p .storing) (wordSteps o i v) (rowLeft o s (i + wordBytes)) (row-word o s w i v h e) (r .0) (r .1);
+      storing = storing-run (p .storing) (wordSteps o i v) (rowLeft o s (i + wordBytes)) (row-word o s w i v h e) (r .place) (r .stores);
     }
 
   -- the bytes that are left
@@ -66,8 +62,10 @@ module _ {s : List ℕ} {o : ℕ} {out₀ : List ℕ} {at : ℕ} {out : List ℕ
         in
         (subst (λ (l : List ℕ). beyond (o + byteBits * i) l ≤ 2 ^ 32) q m, omega (arith, p .storing .room, ap length q))
 
-    pub putting-end : {out′ : List ℕ} {k′ : ℕ} → Stored o i v out k out′ k′ → (k′ ≡ at + length (rowSteps o s)) × (out′ ≡ sets out₀ at (rowSteps o s))
-    putting-end r = storing-end (storing-run (p .storing) (wordSteps o i v) [] (row-rest o s w i v h e ∙ sym (append-nil (wordSteps o i v))) (r .0) (r .1)) refl
+    pub putting-end : {out′ : List ℕ} {k′ : ℕ} → Puts out k (wordSteps o i v) out′ k′ → Puts out₀ at (rowSteps o s) out′ k′
+    putting-end r =
+        let q : rowLeft o s i ≡ wordSteps o i v ++ [] = row-rest o s w i v h e ∙ sym (append-nil (wordSteps o i v)) in
+        storing-end (storing-run (p .storing) (wordSteps o i v) [] q (r .place) (r .stores)) refl
 
 -- ---- where four places are left loose
 
@@ -90,12 +88,12 @@ module _ {s : List ℕ} {o : ℕ} {out₀ : List ℕ} {at : ℕ} {out : List ℕ
         in
         omega (arith, p .room, p .loosely .same, p .loosely .place)
 
-    pub running-turn : {out′ : List ℕ} {k′ : ℕ} → length out′ ≡ length out → k′ ≡ k + length (wordSteps o i v) → Loose out k (wordSteps o i v) out′
+    pub running-turn : {out′ : List ℕ} {k′ : ℕ} → length out′ ≡ length out → PutsLoose out k (wordSteps o i v) out′ k′
         → Running s o out₀ at out′ (i + wordBytes) k′
-    running-turn n ek f = record {
+    running-turn n f = record {
       few = h;
       room = p .room;
-      loosely = loosely-run (p .loosely) (wordSteps o i v) (rowLeft o s (i + wordBytes)) (row-word o s w i v h e) n ek f;
+      loosely = loosely-run (p .loosely) (wordSteps o i v) (rowLeft o s (i + wordBytes)) (row-word o s w i v h e) n f;
     }
 
   -- the bytes that are left
@@ -106,8 +104,8 @@ module _ {s : List ℕ} {o : ℕ} {out₀ : List ℕ} {at : ℕ} {out : List ℕ
       omega (arith, p .room, p .loosely .same, p .loosely .place, ap length (row-rest o s w i v h e)),
     )
 
-    pub running-end : {out′ : List ℕ} {k′ : ℕ} → length out′ ≡ length out → Stored o i v out k out′ k′
-        → (k′ ≡ at + length (rowSteps o s)) × Loose out₀ at (rowSteps o s) out′
-    running-end {out′} {k′} n r =
+    pub running-end : {out′ : List ℕ} {k′ : ℕ} → length out′ ≡ length out → Puts out k (wordSteps o i v) out′ k′
+        → PutsLoose out₀ at (rowSteps o s) out′ k′
+    running-end n r =
         let q : rowLeft o s i ≡ wordSteps o i v ++ [] = row-rest o s w i v h e ∙ sym (append-nil (wordSteps o i v)) in
-        loosely-end (loosely-run (p .loosely) (wordSteps o i v) [] q n (r .0) (exact-loose out k (wordSteps o i v) out′ (r .1))) refl
+        loosely-end (loosely-run (p .loosely) (wordSteps o i v) [] q n (exact-loose r)) refl

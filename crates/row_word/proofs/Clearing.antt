@@ -1,14 +1,14 @@
 -- Laws of putting the ones of a word into a buffer: the lowest first, each of which is then cleared; and all of a word without a zero.
 -- Assumes nothing.
-use mathlib.Core.Path.{_≡_, sym, ap, _∙_}
+use mathlib.Core.Path.{_≡_, sym, ap, _∙_, subst}
 use mathlib.Core.List.{List}
 use Prim.Native.Nat.{ℕ, _+_, _-_, _^_, _≤_, _<_}
 use native.Mathlib.Omega.{arith}
 use lib.Bits.{bitAnd, and-le-r}
 use lib.Count.{trailingZeros}
 use lib.ListN.{length, set}
-use lib.Seq.{sets}
 use Rattle.lists.specs.Rising.{beyond}
+use Rattle.lists.specs.Stores.{Puts}
 use Rattle.lists.proofs.Rising.{rising-length}
 use Rattle.lists.proofs.Stores.{Storing, storing-start, storing-room, storing-one, storing-end}
 use Rattle.row.specs.Row.{bitsFrom}
@@ -28,8 +28,9 @@ pub clearing-start : (word o : ℕ) (out : List ℕ) (at : ℕ) → word < 2 ^ w
 clearing-start word o out at f h l = record { storing = storing-start out at (bitsFrom wordBits o word) l; ends = h; fits = f }
 
 module _ {word o : ℕ} {out₀ : List ℕ} {at : ℕ} {out : List ℕ} {bits k : ℕ} (c : Clearing word o out₀ at out bits k) where
-  pub clearing-end : bits ≡ 0 → (k ≡ at + length (bitsFrom wordBits o word)) × (out ≡ sets out₀ at (bitsFrom wordBits o word))
-  clearing-end e = storing-end (c .storing) (ap (bitsFrom wordBits o) e ∙ bits-zero wordBits o)
+  pub clearing-end : bits ≡ 0 → Puts out₀ at (bitsFrom wordBits o word) out k
+  clearing-end e =
+      storing-end (c .storing) (ap (bitsFrom wordBits o) e ∙ bits-zero wordBits o)
 
   pub clearing-less : 0 < bits → bitAnd bits (bits - 1) < bits
   clearing-less p = omega (arith, and-le-r bits (bits - 1))
@@ -56,7 +57,5 @@ module _ (word o : ℕ) (out : List ℕ) (at : ℕ) (e : word ≡ 2 ^ wordBits -
       let n : length (bitsFrom wordBits o word) ≡ wordBits = length-full wordBits o word e in
       (omega (arith, rising-length o (bitsFrom wordBits o word) (rising-bits wordBits o word)), omega arith)
 
-  pub full-stored : {out′ : List ℕ} {k : ℕ} → (k ≡ at + wordBits) × (out′ ≡ sets out at (bitsFrom wordBits o (2 ^ wordBits - 1)))
-      → (k ≡ at + length (bitsFrom wordBits o word)) × (out′ ≡ sets out at (bitsFrom wordBits o word))
-  full-stored r =
-      (r .0 ∙ ap (λ (n : ℕ). at + n) (sym (length-full wordBits o word e)), r .1 ∙ ap (λ (v : ℕ). sets out at (bitsFrom wordBits o v)) (sym e))
+  pub full-stored : {out′ : List ℕ} {k : ℕ} → Puts out at (bitsFrom wordBits o (2 ^ wordBits - 1)) out′ k → Puts out at (bitsFrom wordBits o word) out′ k
+  full-stored {out′} {k} r = subst (λ (v : ℕ). Puts out at (bitsFrom wordBits o v) out′ k) (sym e) r

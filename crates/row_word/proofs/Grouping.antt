@@ -10,7 +10,7 @@ use Rattle.lists.proofs.Parts.{drop-one}
 use Rattle.lists.proofs.Stores.{sets-append, sets-over}
 use Rattle.row.specs.Row.{bitsFrom}
 use Rattle.row.specs.Words.{wordBits}
-use Rattle.row_word.specs.Groups.{groupBits, groupValues, fourPlaces, otherPlaces, placesOf, placesFrom, countsFrom, allPlaces, Loose}
+use Rattle.row_word.specs.Groups.{groupBits, groupValues, fourPlaces, otherPlaces, placesOf, placesFrom, countsFrom, allPlaces, Loose, PutsLoose}
 use Rattle.row.proofs.Bits.{bits-none, bits-moved, bits-join, length-bits-most, length-bits-moved}
 use Rattle.row_word.proofs.Loosely.{Loosely, loosely-start, loosely-run, loosely-end}
 
@@ -182,19 +182,18 @@ module _ {word o : ℕ} {out₀ : List ℕ} {at : ℕ} {out : List ℕ} {bits j 
 
   -- one group more
   pub grouping-turn : {out′ : List ℕ} {k′ : ℕ} → j < wordBits → length out′ ≡ length out
-      → k′ ≡ k + length (bitsFrom groupBits (o + j) (bits % groupValues))
-      → Loose out k (bitsFrom groupBits (o + j) (bits % groupValues)) out′
+      → PutsLoose out k (bitsFrom groupBits (o + j) (bits % groupValues)) out′ k′
       → Grouping word o out₀ at out′ (bits / groupValues) (j + groupBits) k′
-  grouping-turn {out′} {k′} h n ek f =
+  grouping-turn {out′} {k′} h n w =
       let us : List ℕ = bitsFrom groupBits (o + j) (bits % groupValues) in
       let rest : List ℕ = bitsFrom (wordBits - (j + groupBits)) (o + (j + groupBits)) (bits / groupValues) in
       record {
         few = omega (arith, g .whole);
         whole = omega (arith, g .whole);
-        loosely = loosely-run (g .loosely) us rest (split h) n ek f;
+        loosely = loosely-run (g .loosely) us rest (split h) n w;
       }
 
-  pub grouping-end : wordBits ≤ j → (k ≡ at + length (bitsFrom wordBits o word)) × Loose out₀ at (bitsFrom wordBits o word) out
+  pub grouping-end : wordBits ≤ j → PutsLoose out₀ at (bitsFrom wordBits o word) out k
   grouping-end h =
       let q : wordBits - j ≡ 0 = omega arith in
       loosely-end (g .loosely) (ap (λ (n : ℕ). bitsFrom n (o + j) bits) q ∙ bits-none (o + j) bits)

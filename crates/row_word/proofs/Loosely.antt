@@ -6,8 +6,9 @@ use Prim.Native.Nat.{ℕ, zero, suc, _+_, _≤_, _<_}
 use native.Mathlib.Omega.{arith}
 use lib.ListN.{length, getD, length-append}
 use lib.Seq.{sets}
+use Rattle.lists.specs.Stores.{Puts}
 use Rattle.lists.proofs.Stores.{sets-append, getD-sets-after, sets-same}
-use Rattle.row_word.specs.Groups.{groupBits, Loose}
+use Rattle.row_word.specs.Groups.{groupBits, Loose, PutsLoose}
 
 -- of `vs`, `ws` are left, which go to `k`
 pub record Loosely (out₀ : List ℕ) (at : ℕ) (vs out : List ℕ) (k : ℕ) (ws : List ℕ) : Type 0 where
@@ -24,26 +25,32 @@ loosely-start out at vs ws e = record {
 
 module _ {out₀ : List ℕ} {at : ℕ} {vs out : List ℕ} {k : ℕ} {ws : List ℕ} (s : Loosely out₀ at vs out k ws) where
   -- one run more
-  pub loosely-run : (us rest : List ℕ) {out′ : List ℕ} {k′ : ℕ} → ws ≡ us ++ rest → length out′ ≡ length out → k′ ≡ k + length us → Loose out k us out′
+  pub loosely-run : (us rest : List ℕ) {out′ : List ℕ} {k′ : ℕ} → ws ≡ us ++ rest → length out′ ≡ length out → PutsLoose out k us out′ k′
       → Loosely out₀ at vs out′ k′ rest
-  loosely-run us rest {out′} {k′} e n ek f = record {
+  loosely-run us rest {out′} {k′} e n w = record {
     same = n ∙ s .same;
-    place = omega (arith, s .place, ap length e ∙ length-append us rest);
+    place = omega (arith, w .place, s .place, ap length e ∙ length-append us rest);
     stores = λ more h.
-        ap (λ (p : ℕ). sets out′ p (rest ++ more)) ek
-        ∙ f (rest ++ more) (omega (arith, length-append rest more))
+        ap (λ (p : ℕ). sets out′ p (rest ++ more)) (w .place)
+        ∙ w .loose (rest ++ more) (omega (arith, length-append rest more))
         ∙ ap (sets out k) (sym (append-assoc us rest more) ∙ ap (λ (t : List ℕ). t ++ more) (sym e))
         ∙ s .stores more h;
   }
 
-  pub loosely-end : ws ≡ [] → (k ≡ at + length vs) × Loose out₀ at vs out
+  pub loosely-end : ws ≡ [] → PutsLoose out₀ at vs out k
   loosely-end e =
       let q : k ≡ at + length vs = omega (arith, s .place, ap length e) in
-      (q, λ rest h. ap (λ (p : ℕ). sets out p rest) (sym q) ∙ ap (λ (t : List ℕ). sets out k (t ++ rest)) (sym e) ∙ s .stores rest h)
+      record {
+        place = q;
+        loose = λ rest h. ap (λ (p : ℕ). sets out p rest) (sym q) ∙ ap (λ (t : List ℕ). sets out k (t ++ rest)) (sym e) ∙ s .stores rest h;
+      }
 
 -- a run that leaves none loose
-pub exact-loose : (l : List ℕ) (at : ℕ) (vs l′ : List ℕ) → l′ ≡ sets l at vs → Loose l at vs l′
-exact-loose l at vs l′ e rest h = ap (λ (r : List ℕ). sets r (at + length vs) rest) e ∙ sym (sets-append l at vs rest)
+pub exact-loose : {l : List ℕ} {at : ℕ} {vs l′ : List ℕ} {k : ℕ} → Puts l at vs l′ k → PutsLoose l at vs l′ k
+exact-loose {l} {at} {vs} w = record {
+  place = w .place;
+  loose = λ rest h. ap (λ (r : List ℕ). sets r (at + length vs) rest) (w .stores) ∙ sym (sets-append l at vs rest);
+}
 
 -- the four numbers that stood after `vs`
 pub put-back : (l : List ℕ) (at : ℕ) (vs l′ : List ℕ) (e k w x y z : ℕ) → Loose l at vs l′ → e ≡ at + length vs → k ≡ at + length vs → w ≡ getD l e 0

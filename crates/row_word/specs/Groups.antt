@@ -42,3 +42,8 @@ allPlaces = placesFrom groupValues 0 ++ countsFrom groupValues 0
 -- `vs` was stored from `at` on, and the four places after it may have changed: whoever stores so many numbers there does not see it
 abbrev pub Loose : List ℕ → ℕ → List ℕ → List ℕ → Type 0
 Loose l at vs l′ = (rest : List ℕ) → groupBits ≤ length rest → sets l′ (at + length vs) rest ≡ sets l at (vs ++ rest)
+
+-- that, and `next` is the place after `vs`
+pub record PutsLoose (l : List ℕ) (at : ℕ) (vs l′ : List ℕ) (next : ℕ) : Type 0 where
+  pub place : next ≡ at + length vs
+  pub loose : Loose l at vs l′

@@ -6,17 +6,19 @@ ghost use Prim.Native.Nat.{_+_, _-_, _^_, _≤_, _<_};
 ghost use lib.ListN.{length};
 ghost use lib.Seq.{sets};
 ghost use Rattle.lists.specs.Rising.{beyond};
+ghost use Rattle.lists.specs.Stores.{Puts};
 ghost use Rattle.row.specs.Row.{bitsFrom};
 ghost use Rattle.row.specs.Words.{wordBits};
-ghost use Rattle.row_word.specs.Groups.{groupBits, groupValues, allPlaces, Loose};
+ghost use Rattle.row_word.specs.Groups.{groupBits, groupValues, allPlaces, PutsLoose};
 use row::WORD_BITS;
 
-// A group is four bits of a word, whose ones are looked up at once.
+// Free: the table and the proofs go by it. A group is four bits of a word, whose ones are looked up at once.
 pub const GROUP_BITS: usize = 4;
 
+// Free: it follows from the bits of a group, which has so many values.
 const GROUP_VALUES: usize = 16;
 
-// For each group the places of its ones, the lowest first, and then others up to four, which nobody reads. These are chosen so that no number
+// Free: the proofs compute it. For each group the places of its ones, the lowest first, and then others up to four, which nobody reads. These are chosen so that no number
 // repeats for long: the compiler then stores the table in a few pieces. After all places, how many ones each group has.
 pub const PLACES: [u8; 80] = [
     0,
@@ -101,22 +103,22 @@ pub const PLACES: [u8; 80] = [
     4,
 ];
 
-// Where in the table the numbers of ones begin.
+// Free: it follows from the table. There the numbers of ones begin.
 const COUNTS: usize = 64;
 
-// A word with fewer ones is read one by one. Of 4 to 12 this was among the fastest for random rows.
+// Free: measured; no proof depends on it. A word with fewer ones is read one by one. Of 4 to 12 this was among the fastest for random rows.
 const MANY: usize = 6;
 
-// Where a word begins below this, any of its steps and a byte's value more are 32-bit numbers.
+// Free: half of the 32-bit numbers. Where a word begins below this, any of its steps and a byte's value more are 32-bit numbers.
 pub const NEAR: usize = 2147483648;
 
-// The word whose bits are all 1.
+// Free: it follows from the bits of a word. The word whose bits are all 1.
 const FULL: usize = 18446744073709551615;
 
 // Puts the steps of a word without a zero, whose first bit stands for `from`, into a buffer from a place on, and gives the place after them.
 fn put_full(from: usize, out: &mut [u32], at: usize) -> usize
     requires { ⌜ (from + wordBits ≤ 2 ^ 32) × (at + wordBits ≤ length (now out)) ⌝ }
-    ensures { λ r. ⌜ (r ≡ at + wordBits) × (now (out .exit) ≡ sets (now (out .entry)) at (bitsFrom wordBits from (2 ^ wordBits - 1))) ⌝ }
+    ensures { λ r. ⌜ Puts (now (out .entry)) at (bitsFrom wordBits from (2 ^ wordBits - 1)) (now (out .exit)) r ⌝ }
 {
     let mut j: usize = 0;
     while j < WORD_BITS {
@@ -129,8 +131,7 @@ fn put_full(from: usize, out: &mut [u32], at: usize) -> usize
 // Puts the steps of a word, whose first bit stands for `from`, into a buffer from a place on, one by one, and gives the place after them.
 pub fn put_ones(word: usize, from: usize, out: &mut [u32], at: usize) -> usize
     requires { ⌜ (beyond from (bitsFrom wordBits from word) ≤ 2 ^ 32) × (at + length (bitsFrom wordBits from word) ≤ length (now out)) ⌝ }
-    ensures { λ r. ⌜ (r ≡ at + length (bitsFrom wordBits from word))
-        × (now (out .exit) ≡ sets (now (out .entry)) at (bitsFrom wordBits from word)) ⌝ }
+    ensures { λ r. ⌜ Puts (now (out .entry)) at (bitsFrom wordBits from word) (now (out .exit)) r ⌝ }
 {
     let mut bits = word;
     let mut k = at;
@@ -157,8 +158,7 @@ pub fn put_four(first: u32, second: u32, third: u32, fourth: u32, out: &mut [u32
 // so that no branch waits for a bit: those after the steps are left with anything.
 fn put_group(places: &[u8], group: usize, from: usize, out: &mut [u32], at: usize) -> usize
     requires { ⌜ (now places ≡ allPlaces) × ((group < groupValues) × ((from + 256 ≤ 2 ^ 32) × (at + groupBits ≤ length (now out)))) ⌝ }
-    ensures { λ r. ⌜ (r ≡ at + length (bitsFrom groupBits from group))
-        × Loose (now (out .entry)) at (bitsFrom groupBits from group) (now (out .exit)) ⌝ }
+    ensures { λ r. ⌜ PutsLoose (now (out .entry)) at (bitsFrom groupBits from group) (now (out .exit)) r ⌝ }
 {
     let t = GROUP_BITS * group;
     let first = from + rules::wide(places[t]);
@@ -177,11 +177,11 @@ fn put_group(places: &[u8], group: usize, from: usize, out: &mut [u32], at: usiz
     at + count
 }
 
-// The same for all groups of a word.
+// Puts the steps of a word into a buffer from a place on, group by group, and gives the place after them. The four places after them are left
+// with anything.
 fn put_groups(places: &[u8], word: usize, from: usize, out: &mut [u32], at: usize) -> usize
     requires { ⌜ (now places ≡ allPlaces) × ((from < 2 ^ 31) × (at + length (bitsFrom wordBits from word) + groupBits ≤ length (now out))) ⌝ }
-    ensures { λ r. ⌜ (r ≡ at + length (bitsFrom wordBits from word))
-        × Loose (now (out .entry)) at (bitsFrom wordBits from word) (now (out .exit)) ⌝ }
+    ensures { λ r. ⌜ PutsLoose (now (out .entry)) at (bitsFrom wordBits from word) (now (out .exit)) r ⌝ }
 {
     let mut bits = word;
     let mut j: usize = 0;
@@ -194,11 +194,11 @@ fn put_groups(places: &[u8], word: usize, from: usize, out: &mut [u32], at: usiz
     k
 }
 
-// The same, and what stands in the four places after the steps is put back.
+// Puts the steps of a word into a buffer from a place on, group by group, and gives the place after them. What stands in the four places after
+// them is put back.
 fn put_many(places: &[u8], word: usize, from: usize, out: &mut [u32], at: usize) -> usize
     requires { ⌜ (now places ≡ allPlaces) × ((from < 2 ^ 31) × (at + length (bitsFrom wordBits from word) + groupBits ≤ length (now out))) ⌝ }
-    ensures { λ r. ⌜ (r ≡ at + length (bitsFrom wordBits from word))
-        × (now (out .exit) ≡ sets (now (out .entry)) at (bitsFrom wordBits from word)) ⌝ }
+    ensures { λ r. ⌜ Puts (now (out .entry)) at (bitsFrom wordBits from word) (now (out .exit)) r ⌝ }
 {
     let end = at + row::ones(word);
     let first = out[end];
@@ -210,12 +210,11 @@ fn put_many(places: &[u8], word: usize, from: usize, out: &mut [u32], at: usize)
     k
 }
 
-// The same without the two limits: a word past them is read one by one.
+// Puts the steps of a word into a buffer, by groups where they and the four places after them are in reach, else one by one.
 fn put_dense(places: &[u8], word: usize, from: usize, out: &mut [u32], at: usize) -> usize
     requires { ⌜ (now places ≡ allPlaces) × ((beyond from (bitsFrom wordBits from word) ≤ 2 ^ 32)
         × (at + length (bitsFrom wordBits from word) ≤ length (now out))) ⌝ }
-    ensures { λ r. ⌜ (r ≡ at + length (bitsFrom wordBits from word))
-        × (now (out .exit) ≡ sets (now (out .entry)) at (bitsFrom wordBits from word)) ⌝ }
+    ensures { λ r. ⌜ Puts (now (out .entry)) at (bitsFrom wordBits from word) (now (out .exit)) r ⌝ }
 {
     if from < NEAR {
         if row::ones(word) + GROUP_BITS <= out.len() - at {
@@ -229,8 +228,7 @@ fn put_dense(places: &[u8], word: usize, from: usize, out: &mut [u32], at: usize
 pub fn put_by_table(places: &[u8], word: usize, from: usize, out: &mut [u32], at: usize) -> usize
     requires { ⌜ (now places ≡ allPlaces) × ((beyond from (bitsFrom wordBits from word) ≤ 2 ^ 32)
         × (at + length (bitsFrom wordBits from word) ≤ length (now out))) ⌝ }
-    ensures { λ r. ⌜ (r ≡ at + length (bitsFrom wordBits from word))
-        × (now (out .exit) ≡ sets (now (out .entry)) at (bitsFrom wordBits from word)) ⌝ }
+    ensures { λ r. ⌜ Puts (now (out .entry)) at (bitsFrom wordBits from word) (now (out .exit)) r ⌝ }
 {
     if word == FULL {
         return put_full(from, out, at);
@@ -241,11 +239,10 @@ pub fn put_by_table(places: &[u8], word: usize, from: usize, out: &mut [u32], at
     put_dense(places, word, from, out, at)
 }
 
-// The same for a caller that has no table, which is made only where it is needed.
+// Puts the steps of a word into a buffer for a caller that has no table, which is made only where it is needed.
 pub fn put_word(word: usize, from: usize, out: &mut [u32], at: usize) -> usize
     requires { ⌜ (beyond from (bitsFrom wordBits from word) ≤ 2 ^ 32) × (at + length (bitsFrom wordBits from word) ≤ length (now out)) ⌝ }
-    ensures { λ r. ⌜ (r ≡ at + length (bitsFrom wordBits from word))
-        × (now (out .exit) ≡ sets (now (out .entry)) at (bitsFrom wordBits from word)) ⌝ }
+    ensures { λ r. ⌜ Puts (now (out .entry)) at (bitsFrom wordBits from word) (now (out .exit)) r ⌝ }
 {
     if word == FULL {
         return put_full(from, out, at);
@@ -261,8 +258,7 @@ pub fn put_word(word: usize, from: usize, out: &mut [u32], at: usize) -> usize
 // with anything.
 pub fn put_loose(places: &[u8], word: usize, from: usize, out: &mut [u32], at: usize) -> usize
     requires { ⌜ (now places ≡ allPlaces) × ((from < 2 ^ 31) × (at + length (bitsFrom wordBits from word) + groupBits ≤ length (now out))) ⌝ }
-    ensures { λ r. ⌜ (r ≡ at + length (bitsFrom wordBits from word))
-        × Loose (now (out .entry)) at (bitsFrom wordBits from word) (now (out .exit)) ⌝ }
+    ensures { λ r. ⌜ PutsLoose (now (out .entry)) at (bitsFrom wordBits from word) (now (out .exit)) r ⌝ }
 {
     if word == FULL {
         return put_full(from, out, at);

@@ -19,7 +19,7 @@ use Rattle.lists.proofs.Members.{has-past, has-below}
 use Rattle.lists.proofs.Stores.{getD-sets, set-sets}
 use Rattle.lists.proofs.Bytes.{bytes-sets}
 use Rattle.row.specs.Row.{byteBits, bitsOf, bytesFrom, rowSize, rowOf}
-use Rattle.row_write.specs.Marks.{plus, placeOf, bitOf, marked, Markable}
+use Rattle.row_write.specs.Inside.Marks.{plus, placeOf, bitOf, marked, Markable}
 use Rattle.row.proofs.Written.{bits-of-same, bits-of-none, bits-of-cons, length-bytes-from, getD-bytes-from, length-row, bytes-row}
 
 -- ---- one number more

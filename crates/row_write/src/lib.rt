@@ -6,15 +6,15 @@ ghost use Prim.Native.Nat.{_+_, _^_, _≤_, _<_};
 ghost use lib.ListN.{length, getD, drop};
 ghost use lib.Seq.{sets};
 ghost use Rattle.lists.specs.Rising.{Rising};
+ghost use Rattle.lists.specs.Stores.{Puts};
 ghost use Rattle.row.specs.Row.{bytesFrom, rowOf};
-ghost use Rattle.row_write.specs.Marks.{plus, marked, Markable};
+ghost use Rattle.row_write.specs.Inside.Marks.{plus, marked, Markable};
 use row::BYTE_BITS;
+use row::BYTE_VALUES;
 
-// The values that a byte has.
-const BYTE_VALUES: usize = 256;
-
-// Steps that are marked at once where they are neighbours: as many as a byte has bits.
-const NEIGHBOURS: usize = 8;
+// Free: the proofs go by it. Steps that are marked at once where they are neighbours: as many as a byte has bits, so that they stand in two
+// bytes at most.
+const NEIGHBOURS: usize = BYTE_BITS;
 
 // Adds bits that are 0 so far to a byte.
 fn add(bits: usize, out: &mut [u8], place: usize)
@@ -38,7 +38,7 @@ fn mark(list: &[u32], i: usize, end: usize, from: u32, out: &mut [u8], at: usize
     }
 }
 
-// The same for eight neighbours, of which the one at rank `i` is the first: ones up to the end of its byte, and the others in the next.
+// Marks eight neighbours, of which the one at rank `i` is the first: ones up to the end of its byte, and the others in the next.
 fn mark_neighbours(list: &[u32], i: usize, from: u32, out: &mut [u8], at: usize)
     requires { ⌜ Markable from at (now list) i (now out)
         × ((i + 8 ≤ length (now list)) × (getD (now list) (i + 7) 0 ≡ getD (now list) i 0 + 7)) ⌝ }
@@ -51,7 +51,7 @@ fn mark_neighbours(list: &[u32], i: usize, from: u32, out: &mut [u8], at: usize)
     add(low - 1, out, at + (bit + (BYTE_BITS - 1)) / BYTE_BITS);
 }
 
-// The same for any eight steps. A processor foresees which of the two it is, in long runs and where steps are scattered.
+// Marks any eight steps from rank `i` on. A processor foresees whether they are neighbours, in long runs and where steps are scattered.
 fn mark_eight(list: &[u32], i: usize, from: u32, out: &mut [u8], at: usize)
     requires { ⌜ Markable from at (now list) i (now out) × (i + 8 ≤ length (now list)) ⌝ }
     ensures { λ _. ⌜ marked from at (drop (i + 8) (now (list .entry))) (now (out .exit))
@@ -92,8 +92,7 @@ fn size(list: &[u32], from: u32) -> usize
 // Puts the row of a rising list, whose first bit stands for `from`, into bytes from a place on, and gives the place after it.
 pub fn put(list: &[u32], from: u32, out: &mut [u8], at: usize) -> usize
     requires { ⌜ Rising from (now list) × (at + length (rowOf from (now list)) ≤ length (now out)) ⌝ }
-    ensures { λ r. ⌜ (r ≡ at + length (rowOf from (now (list .entry))))
-        × (now (out .exit) ≡ sets (now (out .entry)) at (rowOf from (now (list .entry)))) ⌝ }
+    ensures { λ r. ⌜ Puts (now (out .entry)) at (rowOf from (now (list .entry))) (now (out .exit)) r ⌝ }
 {
     let bytes = size(list, from);
     clear(out, at, bytes);

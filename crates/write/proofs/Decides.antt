@@ -7,7 +7,8 @@ use lib.ListN.{getD}
 use Rattle.rules.proofs.Paper.{paper-apart, paper-values, paper-refusal}
 use Rattle.write.specs.declared.Counted.{Counted}
 use Rattle.write.specs.declared.Counted.the-variants.{Accepted, Refused}
-use Rattle.write.specs.Promise.{values, paperOf, Promise}
+use Rattle.write.specs.Outcome.{values, paperOf}
+use Rattle.write.specs.Promise.{Promise}
 
 -- an answer is known by document 01's numbers
 pub paper-one : (a b : Counted) → paperOf a ≡ paperOf b → a ≡ b

@@ -20,7 +20,7 @@ use Rattle.image.proofs.Sizes.{length-entries-of, length-payload-of, length-ima
 use Rattle.plan.specs.Planned.{cutOf, wordOf, Marked}
 use Rattle.plan.proofs.Walk.{cuts-planned, word-upto, word-number, Head, marked-head, cuts-none}
 use Rattle.write.specs.Written.{imageFor}
-use Rattle.write.specs.Blocks.{blockAt, Within, Laid, Marks, Filled}
+use Rattle.write.specs.Inside.Blocks.{blockAt, Within, Laid, Marks, Filled}
 
 -- a word says its block
 block-at : {word : ℕ} (b : Block) → word ≡ wordOf b → blockAt word ≡ b
@@ -176,4 +176,4 @@ module _ (xs : List ℕ) {m : ℕ} (e : m ≡ length (cutOf xs)) where
       ∙ ap (λ (k : ℕ). sets l₂ (entryPlace m) (numberBytes k)) n
       ∙ ap (λ (l : List ℕ). sets l (entryPlace m) cs) (two .stores)
       ∙ sym (sets-comm filled (entryPlace m) cs (payloadPlace m) ps (omega (arith, length-little numberSize (length ps))))
-      ∙ storing-end (storing-run c ps [] (sym (append-nil ps)) refl refl) refl .1
+      ∙ storing-end (storing-run c ps [] (sym (append-nil ps)) refl refl) refl .stores

@@ -1,12 +1,13 @@
 -- Storing one block: its part by its kind, and its entry.
 -- Assumes nothing.
-use mathlib.Core.Path.{_≡_, refl, sym}
+use mathlib.Core.Path.{_≡_, refl, sym, subst}
 use mathlib.Core.List.{List, [], _++_, append-nil}
 use Prim.Native.Nat.{ℕ, _+_, _-_, _/_, _%_, _≤_}
 use native.Mathlib.Omega.{arith}
 use lib.ListN.{length, getD, set}
 use lib.Seq.{sets}
 use Rattle.lists.specs.Rising.{Rising, beyond, past}
+use Rattle.lists.specs.Stores.{Puts}
 use Rattle.lists.specs.Parts.{part}
 use Rattle.lists.proofs.Ranks.{beyond-part, rising-part, past-beyond}
 use Rattle.lists.proofs.Stores.{storing-start, storing-one, storing-run, storing-end}
@@ -21,7 +22,7 @@ use Rattle.image.specs.declared.Entry.{Entry}
 use Rattle.image.specs.Entry.{entryBytes}
 use Rattle.image.specs.Grammar.{bytesOf, partOf, entryOf}
 use Rattle.image.proofs.Entries.{length-entry, entry-eq}
-use Rattle.write.specs.Blocks.{blockAt, Within}
+use Rattle.write.specs.Inside.Blocks.{blockAt, Within}
 
 module _ (xs : List ℕ) (i word : ℕ) where
   module _ (w : Within xs i word) {from : ℕ} (e : from ≡ past xs i) where
@@ -45,9 +46,8 @@ module _ (xs : List ℕ) (i word : ℕ) where
   part-within k h e = rw (e, ← h)
 
   pub part-stored : (k : Kind) {from : ℕ} → kindOf (word % 2) ≡ k → from ≡ past xs i → (out : List ℕ) (at : ℕ) {next : ℕ} {out′ : List ℕ}
-      → (next ≡ at + length (bytesOf k from (part xs i (word / 2)))) × (out′ ≡ sets out at (bytesOf k from (part xs i (word / 2))))
-      → (next ≡ at + length (partOf xs i (blockAt word))) × (out′ ≡ sets out at (partOf xs i (blockAt word)))
-  part-stored k h e out at s = rw (part-within k h e) at s
+      → Puts out at (bytesOf k from (part xs i (word / 2))) out′ next → Puts out at (partOf xs i (blockAt word)) out′ next
+  part-stored k h e out at {next} {out′} s = subst (λ (ns : List ℕ). Puts out at ns out′ next) (part-within k h e) s
 
   -- the entry, by the numbers that are stored
   pub entry-within : {base p next : ℕ} → base ≤ p → next ≡ p + length (partOf xs i (blockAt word))
@@ -69,4 +69,4 @@ entry-stored out at e h el em en =
     let k = storing-one s (e .kind) (ls ++ (us ++ es)) refl in
     let l = storing-run k ls (us ++ es) {p′ = at + 5} refl (omega (arith, length-little numberSize (e .last))) el in
     let u = storing-run l us es {p′ = at + 9} refl (omega (arith, length-little numberSize (e .upto))) em in
-    storing-end (storing-run u es [] {p′ = at + 13} (sym (append-nil es)) (omega (arith, length-little numberSize (e .end))) en) refl .1
+    storing-end (storing-run u es [] {p′ = at + 13} (sym (append-nil es)) (omega (arith, length-little numberSize (e .end))) en) refl .stores

@@ -8,20 +8,20 @@ use lib.ListN.{length, getD, take, drop}
 use lib.Seq.{take-at}
 use borrow.Author.Tests.{le-ltb}
 use Rattle.lists.proofs.Choice.{by-lt}
-use Rattle.rules.specs.Limits.{mostSteps}
 use Rattle.rules.specs.Sizes.{workFor}
+use Rattle.rules.specs.declared.Refusal.{Refusal}
 use Rattle.rules.specs.Listed.{Listed}
 use Rattle.rules.specs.Paper.{accepting}
 use Rattle.rules.proofs.Paper.{paper-apart, paper-values}
 use Rattle.image.specs.Verdict.{taken, verdict}
 use Rattle.read.specs.Read.{readPaper, readPromise, stepsAfter, readSteps}
+use Rattle.write_list.proofs.Tests.{by-tests}
 use Rattle.write.specs.declared.Counted.the-variants.{Accepted}
 use Rattle.write.specs.Written.{Written, imageFor}
-use Rattle.write.specs.Faults.{firstAbove, firstFall}
-use Rattle.write.specs.Promise.{values, refused, placed, outcome, answer, outAfter, Promise}
-use Rattle.write.proofs.Faults.{faultless-listed}
+use Rattle.write.specs.Outcome.{values, stopped, placed, answer, outAfter}
+use Rattle.write.specs.Promise.{outcome, Promise}
 use Rattle.write.proofs.Written.{written-some, written-taken}
-use Rattle.write.proofs.Outcomes.{outcome-many, outcome-above, outcome-fall, outcome-work, outcome-unplaced, outcome-placed}
+use Rattle.write.proofs.Outcomes.{outcome-refused, outcome-work, outcome-unplaced, outcome-placed}
 
 -- a list that was written in `s` bytes at the front of an output
 pub record Placed (xs : List ℕ) (n s : ℕ) (out : List ℕ) : Type 0 where
@@ -30,31 +30,27 @@ pub record Placed (xs : List ℕ) (n s : ℕ) (out : List ℕ) : Type 0 where
   pub written : Written xs (take s out)
 
 module _ {xs work out : List ℕ} {n s : ℕ} {work′ out′ : List ℕ} (p : Promise xs work out (Accepted n s) work′ out′) where
-  refuses : {X : Type 0} {k q : ℕ} → outcome xs (length work) (length out) ≡ refused k q → X
-  refuses e = paper-apart values (p .answers ∙ ap (answer xs) e)
+  refuses : {X : Type 0} {r : Refusal} → outcome xs (length work) (length out) ≡ stopped r → X
+  refuses e = paper-apart values (p .answers ∙ ap answer e)
 
   listed : Listed xs
-  listed =
-      by-lt mostSteps (length xs) (λ h. refuses (outcome-many xs (length work) (length out) h))
-      (λ few. by-lt (firstAbove xs) (length xs) (λ h. refuses (outcome-above xs (length work) (length out) few h))
-      (λ a. by-lt (firstFall xs) (length xs) (λ h. refuses (outcome-fall xs (length work) (length out) few a h))
-      (λ f. faultless-listed xs few a f)))
+  listed = by-tests xs (λ r e. refuses (outcome-refused xs (length work) (length out) e)) (λ l. l)
 
-  is-placed : outcome xs (length work) (length out) ≡ placed
+  is-placed : outcome xs (length work) (length out) ≡ placed xs
   is-placed =
       by-lt (length work) (workFor (length xs)) (λ h. refuses (outcome-work xs (length work) (length out) listed h))
       (λ r. by-lt (length out) (length (imageFor xs))
-      (λ h. paper-apart values (p .answers ∙ ap (answer xs) (outcome-unplaced xs (length work) (length out) listed r h)))
+      (λ h. paper-apart values (p .answers ∙ ap answer (outcome-unplaced xs (length work) (length out) listed r h)))
       (λ h. outcome-placed xs (length work) (length out) listed r h))
 
   -- what acceptance says
   pub accepted-placed : Placed xs n s out′
   accepted-placed =
-      let v = paper-values (p .answers ∙ ap (answer xs) is-placed) in
+      let v = paper-values (p .answers ∙ ap answer is-placed) in
       let e : s ≡ length (imageFor xs) = ap (λ (l : List ℕ). getD l 1 0) v in
       let q : take s out′ ≡ imageFor xs =
       ap (λ (k : ℕ). take k out′) e
-      ∙ ap (take (length (imageFor xs))) (p .outputs ∙ ap (outAfter xs out) is-placed)
+      ∙ ap (take (length (imageFor xs))) (p .outputs ∙ ap (outAfter out) is-placed)
       ∙ take-at (imageFor xs) _ (length (imageFor xs)) refl
       in
       record {

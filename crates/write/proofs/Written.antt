@@ -7,7 +7,6 @@ use Prim.Native.Nat.{ℕ, _+_, _*_, _^_, _≤_, _<_}
 use native.Mathlib.Omega.{arith}
 use lib.ListN.{length}
 use Rattle.lists.specs.Parts.{part}
-use Rattle.lists.specs.Bytes.{Bytes}
 use Rattle.lists.proofs.Parts.{length-part}
 use Rattle.rules.specs.Sizes.{numberSize, entrySize}
 use Rattle.rules.specs.Listed.{Listed}
@@ -18,7 +17,7 @@ use Rattle.cut.proofs.Best.{best-one, best-least, best-first}
 use Rattle.image.specs.Grammar.{payloadOf, imageOf, Accepted}
 use Rattle.image.specs.Verdict.{taken, verdict}
 use Rattle.image.proofs.Sizes.{length-payload-of, length-image}
-use Rattle.image.proofs.Accepted.{accepted-taken, accepted-bytes, cut-accepted}
+use Rattle.image.proofs.Accepted.{accepted-taken, cut-accepted}
 use Rattle.plan.specs.Cost.{cost}
 use Rattle.plan.specs.Planned.{cutOf}
 use Rattle.plan.proofs.Walk.{best-planned}
@@ -55,9 +54,6 @@ module _ {xs b : List ℕ} (w : Written xs b) where
 
   pub written-taken : Listed xs → verdict b ≡ taken xs
   written-taken l = accepted-taken (written-accepted l)
-
-  pub bytes-written : Listed xs → Bytes b
-  bytes-written l = accepted-bytes (written-accepted l)
 
   -- NO ACCEPTED IMAGE OF THE LIST IS SHORTER
   pub written-least : {c : List ℕ} → Accepted c xs → length b ≤ length c

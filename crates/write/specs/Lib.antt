@@ -1,4 +1,4 @@
 pub mod Written
-pub mod Faults
-pub mod Blocks
+pub mod Outcome
 pub mod Promise
+pub mod Inside

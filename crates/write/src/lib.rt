@@ -3,11 +3,11 @@
 // twice its upto, and one more for a row.
 
 ghost use mathlib.Core.Path.{_≡_};
-ghost use mathlib.Core.Bool.{true};
 ghost use mathlib.Core.List.{_++_};
 ghost use Prim.Native.Nat.{_+_, _^_, _≤_, _<_};
 ghost use lib.ListN.{length, drop, replicate};
 ghost use lib.Seq.{sets};
+ghost use Rattle.lists.specs.Stores.{Puts};
 ghost use Rattle.rules.specs.Sizes.{entrySize, workFor};
 ghost use Rattle.rules.specs.Refusals.{refusal};
 ghost use Rattle.rules.specs.Listed.{Listed};
@@ -16,78 +16,16 @@ ghost use Rattle.image.specs.Grammar.{partOf, payloadOf};
 ghost use Rattle.plan.specs.Planned.{cutOf};
 ghost use Rattle.write.specs.declared.Counted.the-variants.{Refused};
 ghost use Rattle.write.specs.Written.{imageFor};
-ghost use Rattle.write.specs.Faults.{above, falls, firstAbove, firstFall, Passed};
-ghost use Rattle.write.specs.Blocks.{blockAt, Within, Laid, Marks, Filled};
+ghost use Rattle.write.specs.Inside.Blocks.{blockAt, Within, Laid, Marks, Filled};
 ghost use Rattle.write.specs.Promise.{Promise};
 use image::Entry;
 use rules::Refusal;
+use write_list::Tested;
 
 // What writing a list, or a pair of images, answers: the number of steps and the length of the image, or a refusal.
 pub enum Counted {
     Accepted { steps: u32, bytes: u32 },
     Refused(Refusal),
-}
-
-// Whether each step is above its forerunner; no turn leaves the loop, so that several steps are compared at once.
-fn rises(list: &[u32]) -> bool
-    ensures { λ r. ⌜ (r ≡ true → Passed falls (now (list .entry)) (length (now (list .entry)))) ⌝ }
-{
-    let mut all = true;
-    let mut i: usize = 1;
-    while i < list.len() {
-        if list[i] <= list[i - 1] {
-            all = false;
-        }
-        i += 1;
-    }
-    all
-}
-
-// The first index not above its forerunner, or the length where there is none.
-fn first_fall(list: &[u32]) -> usize
-    ensures { λ r. ⌜ r ≡ firstFall (now (list .entry)) ⌝ }
-{
-    if rises(list) {
-        return list.len();
-    }
-    let mut i: usize = 1;
-    while i < list.len() {
-        if list[i] <= list[i - 1] {
-            return i;
-        }
-        i += 1;
-    }
-    list.len()
-}
-
-// An index below which no step is above the largest: where the steps before the first fall rise to one that is not, none of them is.
-fn small_below(list: &[u32], fall: usize) -> usize
-    requires { ⌜ fall ≡ firstFall (now list) ⌝ }
-    ensures { λ r. ⌜ (r ≤ length (now (list .entry))) × Passed above (now (list .entry)) r ⌝ }
-{
-    if fall == 0 {
-        return 0;
-    }
-    if rules::largest_step() < list[fall - 1] {
-        return 0;
-    }
-    fall
-}
-
-// The index of the first step above the largest, or the length where there is none; the first fall is at `fall`.
-fn first_above(list: &[u32], fall: usize) -> usize
-    requires { ⌜ fall ≡ firstFall (now list) ⌝ }
-    ensures { λ r. ⌜ r ≡ firstAbove (now (list .entry)) ⌝ }
-{
-    let top = rules::largest_step();
-    let mut i = small_below(list, fall);
-    while i < list.len() {
-        if top < list[i] {
-            return i;
-        }
-        i += 1;
-    }
-    i
 }
 
 // The first k numbers of the work area become 0.
@@ -116,19 +54,19 @@ fn put_entry(out: &mut [u8], at: usize, e: Entry)
 // Puts the part of the block that begins at rank i, and that the word says, into bytes from a place on, and gives the place after it.
 fn put_part(list: &[u32], i: usize, word: usize, out: &mut [u8], at: usize) -> usize
     requires { ⌜ Within (now list) i word × (at + length (partOf (now list) i (blockAt word)) ≤ length (now out)) ⌝ }
-    ensures { λ r. ⌜ (r ≡ at + length (partOf (now (list .entry)) i (blockAt word)))
-        × (now (out .exit) ≡ sets (now (out .entry)) at (partOf (now (list .entry)) i (blockAt word))) ⌝ }
+    ensures { λ r. ⌜ Puts (now (out .entry)) at (partOf (now (list .entry)) i (blockAt word)) (now (out .exit)) r ⌝ }
 {
     let upto = word / 2;
     let steps = &list[i..upto];
     let from = plan::past_at(list, i);
-    if word % 2 == 0 {
-        return codes::put(steps, from, out, at);
+    if word % 2 == rules::CODES {
+        return codes_write::put(steps, from, out, at);
     }
     row_write::put(steps, from, out, at)
 }
 
-// Puts that block's part at p and its entry at `at`, and gives the place after the part; the payload begins at `base`.
+// Puts the part of the block that begins at rank i, and that the word says, at p and its entry at `at`, and gives the place after the part; the
+// payload begins at `base`.
 fn put_block(
     list: &[u32],
     i: usize,
@@ -185,7 +123,7 @@ fn put_image(list: &[u32], work: &[u32], m: usize, out: &mut [u8])
 }
 
 // A refusal at a place.
-pub fn refuse(number: u32, place: usize) -> Counted
+fn refuse(number: u32, place: usize) -> Counted
     requires { ⌜ place < 2 ^ 32 ⌝ }
     ensures { λ r. ⌜ r ≡ Refused (refusal number place) ⌝ }
 {
@@ -217,21 +155,15 @@ pub fn write_listed(list: &[u32], work: &mut [u32], out: &mut [u8]) -> Counted
 pub fn write(list: &[u32], work: &mut [u32], out: &mut [u8]) -> Counted
     ensures { λ r. ⌜ Promise (now (list .entry)) (now (work .entry)) (now (out .entry)) r (now (work .exit)) (now (out .exit)) ⌝ }
 {
-    let n = list.len();
-    if n > rules::most_steps() {
-        return refuse(rules::TOO_MANY_STEPS, 0);
+    let t = write_list::test(list);
+    match t {
+        Tested::Refused(r) => Counted::Refused(r),
+        Tested::Accepted => {
+            let need = rules::work_for(list.len());
+            if work.len() < need {
+                return refuse(rules::WORK_TOO_SHORT, need);
+            }
+            write_listed(list, work, out)
+        }
     }
-    let fall = first_fall(list);
-    let above = first_above(list, fall);
-    if above < n {
-        return refuse(rules::STEP_TOO_LARGE, above);
-    }
-    if fall < n {
-        return refuse(rules::NOT_INCREASING, fall);
-    }
-    let need = rules::work_for(n);
-    if work.len() < need {
-        return refuse(rules::WORK_TOO_SHORT, need);
-    }
-    write_listed(list, work, out)
 }

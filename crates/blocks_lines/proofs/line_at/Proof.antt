@@ -6,8 +6,7 @@ use Prim.Native.Nat.{ℕ}
 use native.Mathlib.Omega.{arith}
 use lib.ListN.{getD}
 use Rattle.lists.specs.Bytes.{Bytes}
-use Rattle.image_directory.specs.Part.{partIn}
-use Rattle.image_directory.proofs.Whole.{payload-within, taken-open}
+use Rattle.image_directory.proofs.Whole.{payload-within}
 use Rattle.image_block.specs.Block.{stepsIn, Sound}
 use Rattle.blocks_lines.proofs.Blocks.{Whole, block-whole}
 use Rattle.blocks_lines.proofs.Lines.{whole-some, line-whole, line-at}
@@ -20,14 +19,12 @@ bytes c i = omega (arith, c .shared-slice-known .given i)
 before-requires : tie.Need-before-requires
 before-requires c κs =
     let s = c .before in
-    let few = taken-open (bytes c) (s .pre .0) .sound .blocks in
-    (omega (arith, few, s .pre .1), omega (arith, payload-within (s .args .image .now) (s .pre .0), s .pre .1))
+    omega (arith, payload-within (s .args .image .now) (s .pre .0), s .pre .1)
 
 entry-requires : tie.Need-entry-requires
 entry-requires c κs =
     let s = c .before .before in
-    let few = taken-open (bytes (c .before)) (s .pre .0) .sound .blocks in
-    (omega (arith, few, s .pre .1), omega (arith, payload-within (s .args .image .now) (s .pre .0), s .pre .1))
+    omega (arith, payload-within (s .args .image .now) (s .pre .0), s .pre .1)
 
 -- the function's start, and the block whose entry was read
 abbrev start : tie.After-entry → tie.Start

@@ -5,6 +5,7 @@ use native.Mathlib.Numerals.{add-one, add-two, add-three}
 use borrow.Author.Needs.{needs}
 use lib.ListN.{length-set}
 use Rattle.code.specs.Code.Inside.{code-three-bytes, code-four-bytes, size-three, size-four}
+use Rattle.code.specs.Code.Laws.{length-code}
 use Rattle.code.proofs.put.Statement.{statement}
 use Rattle.code.proofs.put.Tie as tie
 
@@ -54,10 +55,12 @@ same-length-2 : tie.Need-same-length-2
 same-length-2 c = search needs
 
 returns-2 : tie.Need-returns-2
-returns-2 c = (
-  omega (arith, size-three (c .before .before .before .args .x) (omega arith) (omega arith)),
-  simp (code-three-bytes (c .before .before .before .args .x) (omega arith) (omega arith), add-one, add-two),
-)
+returns-2 c =
+    let x = c .before .before .before .args .x in
+    record {
+      place = omega (arith, size-three x (omega arith) (omega arith), length-code x);
+      stores = simp (code-three-bytes x (omega arith) (omega arith), add-one, add-two);
+    }
 
 add-out-5 : tie.Need-add-out-5
 add-out-5 c = search needs
@@ -108,10 +111,12 @@ same-length-3 : tie.Need-same-length-3
 same-length-3 c = search needs
 
 returns-3 : tie.Need-returns-3
-returns-3 c = (
-  omega (arith, size-four (c .before .before .before .args .x) (omega arith)),
-  simp (code-four-bytes (c .before .before .before .args .x) (omega arith), add-one, add-two, add-three),
-)
+returns-3 c =
+    let x = c .before .before .before .args .x in
+    record {
+      place = omega (arith, size-four x (omega arith), length-code x);
+      stores = simp (code-four-bytes x (omega arith), add-one, add-two, add-three);
+    }
 
 pub put-spec : {M : Type 1} → statement M
 put-spec =

@@ -10,6 +10,7 @@ use lib.Seq.{sets, set-set}
 use Rattle.lists.proofs.Choice.{by-lt}
 use Rattle.code.specs.Code.{oneGroup, twoGroups, flag, codeOf, codeSize}
 use Rattle.code.specs.Code.Inside.{code-one-byte, code-two-bytes, size-one, size-two}
+use Rattle.code.specs.Code.Laws.{length-code}
 use Rattle.code.proofs.put_short.Statement.{statement}
 use Rattle.code.proofs.put_short.Tie as tie
 
@@ -64,7 +65,10 @@ same-length c = search needs
 returns : tie.Need-returns
 returns c =
     let a = c .before .before .args in
-    (omega (arith, size-is c), stored-short (a .x) (c .some .result) (c .before .before .pre .0) (c .some .ensures) (a .out .now) (a .at))
+    record {
+      place = omega (arith, size-is c, length-code (a .x));
+      stores = stored-short (a .x) (c .some .result) (c .before .before .pre .0) (c .some .ensures) (a .out .now) (a .at);
+    }
 
 pub put-short-spec : {M : Type 1} → statement M
 put-short-spec =

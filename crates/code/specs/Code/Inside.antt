@@ -79,7 +79,7 @@ module _ (s : List ℕ) (at : ℕ) where
   unfolding readAt first
   read-first {b} e h = record { is = ap (first at) e ∙ pick-no _ _ _ (ne-eqb b flag h) ∙ ap (more 3 at 0) (sym e) }
 
--- the same reading, with its numbers said otherwise
+-- a reading that has come to a place, with its numbers said otherwise
 pub reached-as : {s : List ℕ} {at k k′ p p′ h h′ : ℕ} → Reached s at k p h → k′ ≡ k → p′ ≡ p → h′ ≡ h → Reached s at k′ p′ h′
 reached-as r ek ep eh = rw (ek, ep, eh) r
 

@@ -13,7 +13,7 @@ use Rattle.lists.proofs.Parts.{drop-one, drop-run}
 use Rattle.lists.proofs.Bytes.{bytes-nil, bytes-cons, bytes-append}
 use Rattle.code.specs.declared.Flaw.{Flaw}
 use Rattle.code.specs.declared.Reading.the-variants.{Code, Bad}
-use Rattle.code.specs.Code.Open.{oneGroup, twoGroups, threeGroups, codeValues, flag, codeOf, codeSize, readAt}
+use Rattle.code.specs.Code.Open.{oneGroup, codeValues, flag, codeOf, codeSize, readAt}
 use Rattle.code.specs.Code.Inside.{
   code-one-byte,
   size-one,
@@ -59,18 +59,6 @@ size-most =
     by-size (λ x h. omega (arith, size-one x h)) (λ x g h. omega (arith, size-two x g h))
     (λ x g h. omega (arith, size-three x g h)) (λ x g. omega (arith, size-four x g))
 
-pub size-mono : (x y : ℕ) → x ≤ y → codeSize x ≤ codeSize y
-size-mono =
-    by-size (λ x h y l. omega (arith, size-one x h, size-least y))
-    (λ x g h y l.
-    by-lt y twoGroups (λ m. omega (arith, size-two x g h, size-two y (omega arith) m))
-    (λ m. omega (arith, size-two x g h, three y m)))
-    (λ x g h y l. omega (arith, size-three x g h, three y (omega arith)))
-    (λ x g y l. omega (arith, size-four x g, size-four y (omega arith)))
-  where
-    three : (y : ℕ) → twoGroups ≤ y → 3 ≤ codeSize y
-    three y g = by-lt y threeGroups (λ h. omega (arith, size-three y g h)) (λ h. omega (arith, size-four y h))
-
 -- a number of one group is its own code
 pub code-single : (x : ℕ) → x < oneGroup → codeOf x ≡ x ∷ []
 code-single x h = code-one-byte x h
@@ -101,7 +89,7 @@ read-code s at x rest l e =
 bad-code : {X : Type 0} {w : Flaw} {x n : ℕ} → Bad w ≡ Code x n → X
 bad-code e = let z : _≡_ {A = ℕ} 0 1 = cc in absurd (omega arith)
 
--- codes that are equal, with anything after them, are of one value
+-- for a reader: codes that are equal, with anything after them, are of one value
 pub code-one : (x y : ℕ) (r q : List ℕ) → x < codeValues → y < codeValues → codeOf x ++ r ≡ codeOf y ++ q → x ≡ y
 code-one x y r q hx hy e =
     let p : Code x (0 + codeSize x) ≡ Code y (0 + codeSize y) =
@@ -109,7 +97,7 @@ code-one x y r q hx hy e =
     in
     cc
 
--- what is refused is no code
+-- for a reader: what is refused is no code
 pub bad-no-code : (s : List ℕ) (at : ℕ) (w : Flaw) → readAt s at ≡ Bad w → (x : ℕ) (rest : List ℕ) → x < codeValues
     → drop at s ≡ codeOf x ++ rest
     → ⊥

@@ -4,7 +4,7 @@ use Prim.Native.Nat.{_-_, _≤_, _<_}
 use native.Mathlib.Omega.{arith}
 use borrow.Author.Needs.{needs}
 use lib.ListN.{getD}
-use Rattle.code_stretch.specs.Bytewise.{stretch}
+use Rattle.code_stretch.specs.Inside.Bytewise.{stretch}
 use Rattle.code_stretch.proofs.Runs.{Singles, singles-start, singles-turn, singles-end}
 use Rattle.code_stretch.proofs.singles.Statement.{statement}
 use Rattle.code_stretch.proofs.singles.Tie as tie

@@ -14,6 +14,19 @@ abbrev μ-loop : tie.MeasureT-loop
 μ-loop s at upto low₀ second₀ third₀ fourth₀ ends₀ flaws₀ i₀ low second third fourth ends flaws i =
     upto - i
 
+-- the places that the answers go back to, each from a later one
+abbrev at-loop-test : tie.After-weigh Inv-loop μ-loop → tie.In-loop Inv-loop μ-loop
+at-loop-test c = c .before .before .before .before .before
+
+abbrev at-loop : tie.After-weigh Inv-loop μ-loop → tie.At-loop Inv-loop μ-loop
+at-loop c = at-loop-test c .before
+
+abbrev at-start : tie.After-weigh Inv-loop μ-loop → tie.Start Inv-loop μ-loop
+at-start c = at-loop c .before .before
+
+abbrev at-weigh : tie.After-struct-known4 Inv-loop μ-loop → tie.After-weigh Inv-loop μ-loop
+at-weigh c = c .before .before .before .before
+
 loop-holds : tie.Need-loop-holds Inv-loop μ-loop
 loop-holds c = (omega arith, omega arith, adding-start _ _ _)
 
@@ -45,49 +58,49 @@ cast-low : tie.Need-cast-low Inv-loop μ-loop
 cast-low c = search needs
 
 add-low : tie.Need-add-low Inv-loop μ-loop
-add-low c = let l = c .before .before .before .before .before .before .before .loop in omega (arith, c .before .before .before .before .before .before .before .before .before .pre .1 .0, l .inv .1, l .inv .2 .group .0, c .before .weigh .ensures .group .0)
+add-low c = let l = at-loop (c .before) .loop in omega (arith, at-start (c .before) .pre .1 .0, l .inv .1, l .inv .2 .group .0, c .before .weigh .ensures .group .0)
 
 cast-second : tie.Need-cast-second Inv-loop μ-loop
 cast-second c = search needs
 
 add-second : tie.Need-add-second Inv-loop μ-loop
-add-second c = let l = c .before .before .before .before .before .before .before .before .loop in omega (arith, c .before .before .before .before .before .before .before .before .before .before .pre .1 .0, l .inv .1, l .inv .2 .group .1, c .before .before .weigh .ensures .group .1)
+add-second c = let l = at-loop (c .before .before) .loop in omega (arith, at-start (c .before .before) .pre .1 .0, l .inv .1, l .inv .2 .group .1, c .before .before .weigh .ensures .group .1)
 
 cast-third : tie.Need-cast-third Inv-loop μ-loop
 cast-third c = search needs
 
 add-third : tie.Need-add-third Inv-loop μ-loop
-add-third c = let l = c .before .before .before .before .before .before .before .before .before .loop in omega (arith, c .before .before .before .before .before .before .before .before .before .before .before .pre .1 .0, l .inv .1, l .inv .2 .group .2, c .before .before .before .weigh .ensures .group .2)
+add-third c = let l = at-loop (c .before .before .before) .loop in omega (arith, at-start (c .before .before .before) .pre .1 .0, l .inv .1, l .inv .2 .group .2, c .before .before .before .weigh .ensures .group .2)
 
 cast-fourth : tie.Need-cast-fourth Inv-loop μ-loop
 cast-fourth c = search needs
 
 add-fourth : tie.Need-add-fourth Inv-loop μ-loop
-add-fourth c = let l = c .before .before .before .before .before .before .before .before .before .before .loop in omega (arith, c .before .before .before .before .before .before .before .before .before .before .before .before .pre .1 .0, l .inv .1, l .inv .2 .group .3, c .before .before .before .before .weigh .ensures .group .3)
+add-fourth c = let l = at-loop (at-weigh c) .loop in omega (arith, at-start (at-weigh c) .pre .1 .0, l .inv .1, l .inv .2 .group .3, at-weigh c .weigh .ensures .group .3)
 
 cast-ends : tie.Need-cast-ends Inv-loop μ-loop
 cast-ends c = search needs
 
 add-ends : tie.Need-add-ends Inv-loop μ-loop
-add-ends c = let l = c .before .before .before .before .before .before .before .before .before .before .before .loop in omega (arith, c .before .before .before .before .before .before .before .before .before .before .before .before .before .pre .1 .0, l .inv .1, l .inv .2 .few .0, c .before .before .before .before .before .weigh .ensures .ends-is .1)
+add-ends c = let l = at-loop (at-weigh (c .before)) .loop in omega (arith, at-start (at-weigh (c .before)) .pre .1 .0, l .inv .1, l .inv .2 .few .0, at-weigh (c .before) .weigh .ensures .ends-is .1)
 
 cast-flaws : tie.Need-cast-flaws Inv-loop μ-loop
 cast-flaws c = search needs
 
 add-flaws : tie.Need-add-flaws Inv-loop μ-loop
-add-flaws c = let l = c .before .before .before .before .before .before .before .before .before .before .before .before .loop in omega (arith, c .before .before .before .before .before .before .before .before .before .before .before .before .before .before .pre .1 .0, l .inv .1, l .inv .2 .few .1, c .before .before .before .before .before .before .weigh .ensures .flaws-is .1)
+add-flaws c = let l = at-loop (at-weigh (c .before .before)) .loop in omega (arith, at-start (at-weigh (c .before .before)) .pre .1 .0, l .inv .1, l .inv .2 .few .1, at-weigh (c .before .before) .weigh .ensures .flaws-is .1)
 
 add-i : tie.Need-add-i Inv-loop μ-loop
-add-i c = omega (arith, c .before .before .before .before .before .before .before .before .before .before .before .loop-test .taken, c .before .before .before .before .before .before .before .before .before .before .before .before .before .before .fits .upto)
+add-i c = omega (arith, at-loop-test (at-weigh (c .before .before)) .loop-test .taken, at-start (at-weigh (c .before .before)) .fits .upto)
 
 loop-less : tie.Need-loop-less Inv-loop μ-loop
 loop-less c = omega arith
 
 loop-again : tie.Need-loop-again Inv-loop μ-loop
 loop-again c =
-    let l = c .before .before .before .before .before .before .before .before .before .before .before .before .loop in
-    let h = c .before .before .before .before .before .before .before .before .before .before .before .loop-test .taken in
-    (omega (arith, l .inv .0), omega (arith, h), adding-turn (l .inv .2) (l .inv .0) h (c .before .before .before .before .before .before .weigh .ensures))
+    let l = at-loop (at-weigh (c .before .before)) .loop in
+    let h = at-loop-test (at-weigh (c .before .before)) .loop-test .taken in
+    (omega (arith, l .inv .0), omega (arith, h), adding-turn (l .inv .2) (l .inv .0) h (at-weigh (c .before .before) .weigh .ensures))
 
 joined-requires : tie.Need-joined-requires Inv-loop μ-loop
 joined-requires c κs = search needs

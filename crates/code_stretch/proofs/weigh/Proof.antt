@@ -8,6 +8,13 @@ use Rattle.code_stretch.proofs.Bytewise.{shares-worth, shares-ends, sha
 use Rattle.code_stretch.proofs.weigh.Statement.{statement}
 use Rattle.code_stretch.proofs.weigh.Tie as tie
 
+-- the places that the answers go back to, each from a later one
+abbrev at-start : tie.After-kept3 → tie.Start
+at-start c = c .before .before .before
+
+abbrev at-kept3 : tie.After-padded → tie.After-kept3
+at-kept3 c = c .before .before .before .before .before
+
 kept-requires : tie.Need-kept-requires
 kept-requires c κs = search needs
 
@@ -40,11 +47,11 @@ add-t13 c = search needs
 
 returns : tie.Need-returns
 returns c =
-    let start = c .before .before .before .before .before .before .before .before in
+    let start = at-start (at-kept3 c) in
     let a = start .args in
-    let one = c .before .before .before .before .before .before .before .kept in
-    let two = c .before .before .before .before .before .before .kept2 in
-    let three = c .before .before .before .before .before .kept3 in
+    let one = at-kept3 c .before .before .kept in
+    let two = at-kept3 c .before .kept2 in
+    let three = at-kept3 c .kept3 in
     let l = c .before .before .before .before .kept4 in
     let m = c .before .before .before .kept5 in
     let n = c .before .before .kept6 in

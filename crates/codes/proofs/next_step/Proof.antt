@@ -3,7 +3,7 @@ use mathlib.Core.Path.{sym, _∙_}
 use Prim.Native.Nat.{_+_}
 use native.Mathlib.Omega.{arith}
 use borrow.Author.Needs.{needs}
-use Rattle.codes.specs.Codes.{Turn}
+use Rattle.codes.specs.Inside.Turn.{Turn}
 use Rattle.codes.proofs.Turns.{turn, turn-bad}
 use Rattle.codes.proofs.next_step.Statement.{statement}
 use Rattle.codes.proofs.next_step.Tie as tie

@@ -1,11 +1,10 @@
 -- `image_block::put_steps` meets its contract: the steps that the block's codes or its row stand for are the block's. Assumes nothing.
-use mathlib.Core.Path.{_≡_, sym, ap, subst}
+use mathlib.Core.Path.{sym, ap, subst}
 use mathlib.Core.List.{List}
-use Prim.Native.Nat.{ℕ, _+_}
+use Prim.Native.Nat.{ℕ}
 use native.Mathlib.Omega.{arith}
 use borrow.Author.Needs.{needs}
 use lib.ListN.{length}
-use lib.Seq.{sets}
 use Rattle.lists.specs.Stores.{Puts}
 use Rattle.rules.specs.Limits.Laws.{largest-coded}
 use Rattle.image_block.proofs.Steps.{steps-codes, sound-codes, steps-row, row-ends}
@@ -27,7 +26,7 @@ returns c =
     let s = f .before .before .before .before .before .before in
     let a = s .args in
     subst (λ (xs : List ℕ). Puts (a .out .now) (a .at) xs (f .steps .last .1 .1 .0) (f .steps .result))
-    (sym (steps-codes (s .pre .0) (f .before .before .if1 .taken))) (record { place = f .steps .ensures .0; stores = f .steps .ensures .1 })
+    (sym (steps-codes (s .pre .0) (f .before .before .if1 .taken))) (f .steps .ensures)
 
 steps-requires-2 : tie.Need-steps-requires-2
 steps-requires-2 c κs =
@@ -44,7 +43,7 @@ returns-2 c =
     let s = f .before .before .before .before .before .before in
     let a = s .args in
     subst (λ (xs : List ℕ). Puts (a .out .now) (a .at) xs (f .steps2 .last .1 .1 .0) (f .steps2 .result))
-    (sym (steps-row (s .pre .0) (f .before .before .if1 .left))) (record { place = f .steps2 .ensures .0; stores = f .steps2 .ensures .1 })
+    (sym (steps-row (s .pre .0) (f .before .before .if1 .left))) (f .steps2 .ensures)
 
 pub put-steps-spec : {M : Type 1} → statement M
 put-steps-spec = tie.close (tie.spec steps-requires same-length returns steps-requires-2 same-length-2 returns-2)

@@ -1,6 +1,5 @@
 -- `image_directory::find` meets its contract: no entry that was passed has the answer. Assumes nothing.
 use mathlib.Core.Path.{sym, _∙_, subst}
-use mathlib.Core.Bool.{true, false}
 use Prim.Native.Nat.{_-_}
 use native.Mathlib.Omega.{arith}
 use borrow.Author.Needs.{needs}

@@ -6,6 +6,10 @@ use Rattle.image_walk.proofs.Entering.{block-more, current-here, curren
 use Rattle.image_walk.proofs.current.Statement.{statement}
 use Rattle.image_walk.proofs.current.Tie as tie
 
+-- the places that the answers go back to, each from a later one
+abbrev at-start : tie.Else2 → tie.Start
+at-start c = c .before .before .before .before .before .before
+
 returns : tie.Need-returns
 returns c = current-here (c .before .before .before .before .pre) (c .if1 .taken)
 
@@ -14,28 +18,22 @@ returns-2 c = current-over (c .before .before .before .before .before .before .p
 
 -- there is another block
 more : (c : tie.Else2)
-    → let a = c .before .before .before .before .before .before .args in
+    → let a = at-start c .args in
     a .p .block < numberAt (a .image .now) 0
-more c = block-more (c .before .before .before .before .before .before .pre .blocks) (c .if2 .left)
+more c = block-more (at-start c .pre .blocks) (c .if2 .left)
 
-mul-entry-at : tie.Need-mul-entry-at
-mul-entry-at c = omega (arith, more (c .before), c .before .before .before .before .before .before .before .pre .blocks .size)
-
-add-entry-at : tie.Need-add-entry-at
-add-entry-at c = omega (arith, more (c .before), c .before .before .before .before .before .before .before .pre .blocks .size)
-
-entry-at-requires : tie.Need-entry-at-requires
-entry-at-requires c κs = omega (arith, more (c .before), c .before .before .before .before .before .before .before .pre .blocks .size)
+entry-requires : tie.Need-entry-requires
+entry-requires c κs = omega (arith, more c, at-start c .pre .blocks .size)
 
 add-t6 : tie.Need-add-t6
-add-t6 c = omega (arith, more (c .before .before .before), c .before .before .before .before .before .before .before .before .before .pre .blocks .size)
+add-t6 c = omega (arith, more (c .before .before), at-start (c .before .before) .pre .blocks .size)
 
 returns-3 : tie.Need-returns-3
 returns-3 c =
-    current-next (c .before .before .before .before .before .before .before .before .before .pre) (omega arith) (c .before .entry-at .result)
-    (c .before .entry-at .ensures .0) (c .before .before .before .if2 .left)
+    current-next (at-start (c .before .before) .pre) (omega arith) (c .before .entry .result)
+    (c .before .entry .ensures .0) (c .before .before .if2 .left)
 
 pub current-spec : {M : Type 1} → statement M
 current-spec =
     tie.close
-    (tie.spec returns returns-2 mul-entry-at add-entry-at entry-at-requires add-t6 returns-3)
+    (tie.spec returns returns-2 entry-requires add-t6 returns-3)

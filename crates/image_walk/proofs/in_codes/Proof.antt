@@ -4,7 +4,8 @@ use Prim.Native.Nat.{_+_, _≤_}
 use native.Mathlib.Omega.{arith}
 use borrow.Author.Needs.{needs}
 use Rattle.rules.specs.Limits.Laws.{largest-coded}
-use Rattle.image_walk.specs.Turns.{codedWalk, Met}
+use Rattle.image_walk.specs.Turns.{codedWalk}
+use Rattle.image_walk.specs.Inside.Moves.{Met}
 use Rattle.image_walk.proofs.Shapes.{met-step}
 use Rattle.image_walk.proofs.Coding.{code-met, code-good}
 use Rattle.image_walk.proofs.in_codes.Statement.{statement}

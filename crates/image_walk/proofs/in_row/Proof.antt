@@ -6,7 +6,8 @@ use borrow.Author.Needs.{needs}
 use Rattle.lists.specs.Bytes.{Bytes}
 use Rattle.rules.specs.Limits.Laws.{largest-coded}
 use Rattle.row.specs.Words.{wordBytes}
-use Rattle.image_walk.specs.Turns.{metWalk, Met}
+use Rattle.image_walk.specs.Turns.{metWalk}
+use Rattle.image_walk.specs.Inside.Moves.{Met}
 use Rattle.image_walk.proofs.Shapes.{met-step}
 use Rattle.image_walk.proofs.Loading.{Seeking, seeking-start, seeking-on, seeking-turn, seeking-met}
 use Rattle.image_walk.proofs.in_row.Statement.{statement}

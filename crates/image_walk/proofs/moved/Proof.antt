@@ -3,7 +3,7 @@ use mathlib.Core.Path.{sym, subst}
 use native.Mathlib.Omega.{arith}
 use borrow.Author.Needs.{needs}
 use Rattle.rules.specs.Limits.Laws.{largest-coded}
-use Rattle.image_walk.specs.Turns.{Moves}
+use Rattle.image_walk.specs.Inside.Moves.{Moves}
 use Rattle.image_walk.proofs.Passing.{bit-moves}
 use Rattle.image_walk.proofs.moved.Statement.{statement}
 use Rattle.image_walk.proofs.moved.Tie as tie

@@ -3,7 +3,7 @@ use mathlib.Core.Path.{sym, subst}
 use native.Mathlib.Omega.{arith}
 use borrow.Author.Needs.{needs}
 use Rattle.rules.specs.Limits.Laws.{largest-coded}
-use Rattle.image_walk.specs.Turns.{Slid}
+use Rattle.image_walk.specs.Inside.Moves.{Slid}
 use Rattle.image_walk.proofs.Passing.{code-out, code-next}
 use Rattle.image_walk.proofs.next_code.Statement.{statement}
 use Rattle.image_walk.proofs.next_code.Tie as tie

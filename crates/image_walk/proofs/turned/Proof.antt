@@ -1,6 +1,5 @@
 -- `image_walk::turned` meets its contract: a step is met in the open block, or nothing is left. Assumes nothing.
 use mathlib.Core.Path.{sym, subst}
-use Prim.Native.Nat.{_+_}
 use native.Mathlib.Omega.{arith}
 use borrow.Author.Needs.{needs}
 use Rattle.image_walk.specs.Turns.{Turned}
@@ -17,14 +16,8 @@ inside-requires c κs = search needs
 returns : tie.Need-returns
 returns c = turned-met (c .before .before .before .current .ensures) (c .inside .ensures)
 
-largest-step-requires : tie.Need-largest-step-requires
-largest-step-requires c κs = search needs
-
-cast-coded : tie.Need-cast-coded
-cast-coded c = search needs
-
-add-coded : tie.Need-add-coded
-add-coded c = search needs
+no-step-requires : tie.Need-no-step-requires
+no-step-requires c κs = search needs
 
 coded-requires : tie.Need-coded-requires
 coded-requires c κs = search needs
@@ -33,7 +26,7 @@ returns-2 : tie.Need-returns-2
 returns-2 c =
     let a = c .before .before .before .before .before .before .before .args in
     subst (Turned (a .image .now) (a .payload .now) (a .p)) (sym (c .coded .ensures))
-    (turned-over (c .before .before .before .before .current .ensures) (c .before .largest-step .result + 1) (omega (arith, c .before .largest-step .ensures)) (omega arith))
+    (turned-over (c .before .before .before .before .current .ensures) (c .before .no-step .result) (c .before .no-step .ensures) (omega arith))
 
 pub turned-spec : {M : Type 1} → statement M
 turned-spec =
@@ -42,8 +35,6 @@ turned-spec =
     current-requires
     inside-requires
     returns
-    largest-step-requires
-    cast-coded
-    add-coded
+    no-step-requires
     coded-requires
     returns-2)

@@ -7,18 +7,22 @@ use Rattle.pair.proofs.Outcomes.{promise-first, promise-second}
 use Rattle.pair.proofs.paired.Statement.{statement}
 use Rattle.pair.proofs.paired.Tie as tie
 
+-- the places that the answers go back to, each from a later one
+abbrev at-start : tie.After-check → tie.Start
+at-start c = c .before .before .before .before .before .before
+
 -- an image that was accepted
-first : (c : tie.After-c2) → Taken (c .before .before .before .before .before .before .before .before .args .first .now)
+first : (c : tie.After-c2) → Taken (at-start (c .before .before) .args .first .now)
 first c =
     let k = c .before .before in
-    let s = k .before .before .before .before .before .before .args .first .now in
+    let s = at-start k .args .first .now in
     let y = answer-yes s (k .check .ensures) (c .c2 .given .1) in
     taken-is s (y .list) (y .is) .0
 
-second : (c : tie.After-d2) → Taken (c .before .before .before .before .before .before .before .before .before .before .before .before .args .second .now)
+second : (c : tie.After-d2) → Taken (at-start (c .before .before .before .before .before .before) .args .second .now)
 second c =
     let k = c .before .before in
-    let s = k .before .before .before .before .before .before .before .before .before .before .args .second .now in
+    let s = at-start (k .before .before .before .before) .args .second .now in
     let y = answer-yes s (k .check2 .ensures) (c .d2 .given .1) in
     taken-is s (y .list) (y .is) .0
 
@@ -63,15 +67,15 @@ counted-requires c κs =
 returns : tie.Need-returns
 returns c =
     let k = c .before .before .before .before in
-    let a = k .before .before .before .before .before .before .args in
-    promise-first (answer-no (a .first .now) (k .check .ensures) (c .before .before .c .given .1)) (c .on-side .ensures)
+    let a = at-start k .args in
+    promise-first (a .op) (a .first .now) (a .second .now) (answer-no (a .first .now) (k .check .ensures) (c .before .before .c .given .1)) (c .on-side .ensures)
 
 returns-2 : tie.Need-returns-2
 returns-2 c =
     let k = c .before .before .before .before in
     let f = k .before .before in
-    let a = f .before .before .before .before .before .before .before .before .args in
-    promise-second (first f) (answer-no (a .second .now) (k .check2 .ensures) (c .before .before .d .given .1)) (c .on-side2 .ensures)
+    let a = at-start (f .before .before) .args in
+    promise-second (a .op) (a .first .now) (a .second .now) (first f) (answer-no (a .second .now) (k .check2 .ensures) (c .before .before .d .given .1)) (c .on-side2 .ensures)
 
 same-length : tie.Need-same-length
 same-length c = search needs

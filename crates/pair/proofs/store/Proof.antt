@@ -5,9 +5,13 @@ use Rattle.pair.proofs.Holding.{length-lent, held-copied}
 use Rattle.pair.proofs.store.Statement.{statement}
 use Rattle.pair.proofs.store.Tie as tie
 
+-- the places that the answers go back to, each from a later one
+abbrev at-start : tie.After-put-arg → tie.Start
+at-start c = c .before .before .before .before .before .before
+
 slice-aggregate-put : tie.Need-slice-aggregate-put
 slice-aggregate-put c =
-    let a = c .before .before .before .before .before .before .args in
+    let a = at-start c .args in
     length-lent (a .n) (a .few .now) (c .before .if1 .taken)
 
 put-requires : tie.Need-put-requires
@@ -18,7 +22,7 @@ same-length c = search needs
 
 returns : tie.Need-returns
 returns c =
-    let p = c .before .before .before .before .before .before .before .before .before .before in
+    let p = at-start (c .before .before .before .before) in
     let h = p .pre .0 .1 in
     held-copied (p .args .op) (p .args .first .now) (p .args .second .now) h (c .before .before .before .before .before .if1 .taken) (p .args .steps .now) (p .pre .1)
     (c .before .before .put .ensures (omega (arith, h .counted, p .pre .1, length-lent (p .args .n) (p .args .few .now) (c .before .before .before .before .before .if1 .taken))))

@@ -5,7 +5,7 @@ use native.Mathlib.Omega.{arith}
 use borrow.Author.Needs.{needs}
 use lib.ListN.{length}
 use Rattle.row.specs.Words.{wordBits}
-use Rattle.pair_dense.specs.Words.{stepsIn}
+use Rattle.pair_dense.specs.Inside.Words.{stepsIn}
 use Rattle.pair_dense.proofs.Words.{leftIn, left-start, left-length, left-end}
 use Rattle.pair_dense.proofs.count_window.Statement.{statement}
 use Rattle.pair_dense.proofs.count_window.Tie as tie

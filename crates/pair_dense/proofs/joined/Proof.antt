@@ -3,7 +3,7 @@ use mathlib.Core.Path.{sym, ap}
 use borrow.Author.Needs.{needs}
 use lib.Bits.{and-le-l}
 use Rattle.pair_operation.specs.declared.Operation.{Operation}
-use Rattle.pair_dense.specs.Words.{wordOf}
+use Rattle.pair_dense.specs.Inside.Words.{wordOf}
 use Rattle.pair_dense.proofs.joined.Statement.{statement}
 use Rattle.pair_dense.proofs.joined.Tie as tie
 

@@ -1,6 +1,6 @@
 -- `pair_feed::fill_with_none` meets its contract: place by place. Assumes nothing.
 use mathlib.Core.Path.{_≡_, refl, _∙_}
-use Prim.Native.Nat.{ℕ, _+_, _-_, _≤_, _<_}
+use Prim.Native.Nat.{ℕ, _-_, _≤_, _<_}
 use native.Mathlib.Omega.{arith}
 use lib.ListN.{length, getD, length-set}
 use Rattle.rules.specs.Limits.Laws.{largest-coded}
@@ -16,11 +16,11 @@ Inv-loop steps₀ none i₀ steps i =
 abbrev μ-loop : tie.MeasureT-loop
 μ-loop steps₀ none i₀ steps i = length steps₀ - i
 
-largest-step-requires : tie.Need-largest-step-requires Inv-loop μ-loop
-largest-step-requires c κs = tt
+no-step-requires : tie.Need-no-step-requires Inv-loop μ-loop
+no-step-requires c κs = tt
 
-add-none : tie.Need-add-none Inv-loop μ-loop
-add-none c = omega (arith, c .largest-step .ensures, largest-coded)
+cast-none : tie.Need-cast-none Inv-loop μ-loop
+cast-none c = omega (arith, c .no-step .ensures, largest-coded)
 
 loop-holds : tie.Need-loop-holds Inv-loop μ-loop
 loop-holds c = (refl, (omega arith, λ j h. absurd (omega arith)))
@@ -40,10 +40,10 @@ loop-less c = omega (arith, c .before .loop .inv .0, c .loop-test .taken)
 loop-again : tie.Need-loop-again Inv-loop μ-loop
 loop-again c =
     let l = c .before .loop in
-    let x = c .before .before .largest-step in
-    let n = length-set (l .steps) (l .i) (x .result + 1) in
-    let e : x .result + 1 ≡ noStep = omega (arith, x .ensures) in
-    (n ∙ l .inv .0, (omega (arith, n, c .loop-test .taken), none-more (l .steps) (l .i) (x .result + 1) (c .loop-test .taken) e (l .inv .1 .1)))
+    let x = c .before .before .no-step in
+    let n = length-set (l .steps) (l .i) (x .result) in
+    let e : x .result ≡ noStep = x .ensures in
+    (n ∙ l .inv .0, (omega (arith, n, c .loop-test .taken), none-more (l .steps) (l .i) (x .result) (c .loop-test .taken) e (l .inv .1 .1)))
 
 same-length : tie.Need-same-length Inv-loop μ-loop
 same-length c = c .before .loop .inv .0
@@ -57,8 +57,8 @@ fill-with-none-spec =
     (tie.spec
     Inv-loop
     μ-loop
-    largest-step-requires
-    add-none
+    no-step-requires
+    cast-none
     loop-holds
     mul-steps
     slice-write-steps

@@ -14,6 +14,10 @@ use Rattle.pair_feed.proofs.Coding.{Next, codes-step, codes-start, code
 use Rattle.pair_feed.proofs.past_code.Statement.{statement}
 use Rattle.pair_feed.proofs.past_code.Tie as tie
 
+-- the places that the answers go back to, each from a later one
+abbrev at-start : tie.After-known-told → tie.Start
+at-start c = c .before .before .before .before .before .before .before
+
 sub-read : tie.Need-sub-read
 sub-read c = search needs
 
@@ -31,19 +35,19 @@ enum-known-r c = search needs
 
 -- a code was read
 next : (c : tie.After-known-told)
-    → let a = c .before .before .before .before .before .before .before .args in
+    → let a = at-start c .args in
     let r = c .before .r .given .0 in
     Next (a .image .now) (a .payload .now) (a .w) (codedWalk (a .w .step + 1 + r .0) (a .w .at + r .1 .0) (a .w .end) (a .w .block))
     × (a .w .at + r .1 .0 ≤ a .w .end)
 next c =
-    let d = c .before .before .before .before .before .before .before .pre in
+    let d = at-start c .pre in
     let r = c .before .r .given .0 in
     let e = sym (c .before .before .before .read .ensures) ∙ c .before .r .given .1 in
-    let bytes : Bytes (c .before .before .before .before .before .before .before .args .payload .now) = λ i. omega (arith, c .before .before .before .before .before .shared-slice-known2 .given i) in
+    let bytes : Bytes (at-start c .args .payload .now) = λ i. omega (arith, c .before .before .before .before .before .shared-slice-known2 .given i) in
     (codes-next (d .0) (d .1 .0) (d .1 .1) bytes (r .0) (r .1 .0) e, codes-within (d .0) (d .1 .0) (d .1 .1) bytes (r .0) (r .1 .0) e)
 
 add-coded : tie.Need-add-coded
-add-coded c = let d = c .before .before .before .before .before .before .before .before .pre in omega (arith, codes-step (d .0) (d .1 .0) (d .1 .1), largest-coded)
+add-coded c = let d = at-start (c .before) .pre in omega (arith, codes-step (d .0) (d .1 .0) (d .1 .1), largest-coded)
 
 cast-coded : tie.Need-cast-coded
 cast-coded c = search needs
@@ -53,7 +57,7 @@ add-coded-2 c = omega (arith, next (c .before) .0 .on, largest-coded)
 
 add-coded-3 : tie.Need-add-coded-3
 add-coded-3 c =
-    let d = c .before .before .before .before .before .before .before .before in
+    let d = at-start (c .before) in
     omega (arith, next (c .before) .1, among (d .args .payload .now) (d .args .w) (d .pre .0 .placed) (d .pre .1 .0) (d .pre .1 .1) .within, d .pre .0 .blocks .few)
 
 coded-requires : tie.Need-coded-requires
@@ -64,7 +68,7 @@ enum-told c = search needs
 
 returns : tie.Need-returns
 returns c =
-    let a = c .before .before .before .before .before .before .before .before .before .args in
+    let a = at-start (c .before .before) .args in
     let n = next (c .before .before) .0 in
     subst (λ (v : Walk). Stands (a .image .now) (a .payload .now) v
     × (ahead (a .image .now) (a .payload .now) (a .w) ≡ a .w .step ∷ ahead (a .image .now) (a .payload .now) v))

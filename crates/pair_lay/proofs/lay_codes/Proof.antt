@@ -12,6 +12,13 @@ use Rattle.pair_lay.proofs.Running.{lays-code, lays-run}
 use Rattle.pair_lay.proofs.lay_codes.Statement.{statement}
 use Rattle.pair_lay.proofs.lay_codes.Tie as tie
 
+-- the places that the answers go back to, each from a later one
+abbrev at-start : tie.After-slice-known2 → tie.Start
+at-start c = c .before .before .before .before .before .before .before .before
+
+abbrev at-next-code : tie.After-lay-run-arg → tie.After-next-code
+at-next-code c = c .before .before .before .before .before
+
 sub-mark : tie.Need-sub-mark
 sub-mark c = search needs
 
@@ -22,22 +29,22 @@ next-code-requires : tie.Need-next-code-requires
 next-code-requires c κs = search needs
 
 -- the window has as many words as before
-sized : (c : tie.After-slice-known2) → length (c .before .before .mark .last .0) ≡ length (c .before .before .before .before .before .before .before .before .args .words .now)
+sized : (c : tie.After-slice-known2) → length (c .before .before .mark .last .0) ≡ length (at-start c .args .words .now)
 sized c = omega arith
 
 -- the walk's own step is laid
 first-laid : (c : tie.After-next-code)
-    → let a = c .before .before .before .before .before .before .before .before .before .args in
+    → let a = at-start (c .before) .args in
     Lays (a .image .now) (a .payload .now) (a .w) (a .from) (a .words .now) (c .before .before .before .mark .last .0) (c .next-code .result)
 first-laid c =
-    let d = c .before .before .before .before .before .before .before .before .before in
+    let d = at-start (c .before) in
     lays-code (d .args .w .step - d .args .from) (omega (arith, d .pre .1 .0 .0)) (d .pre .1 .0 .1 .0) (c .before .before .before .mark .ensures) (c .next-code .ensures .0) (c .next-code .ensures .1)
 
 -- a code is left, so there is a step
-on-code : (c : tie.After-lay-run-arg) → c .before .before .before .before .before .next-code .result .step < noStep
+on-code : (c : tie.After-lay-run-arg) → at-next-code c .next-code .result .step < noStep
 on-code c =
-    let p = c .before .before .before .before .before .next-code .ensures .0 .placed in
-    by-lt (c .before .before .before .before .before .next-code .result .step) noStep (λ h. h) (λ h. absurd (omega (arith, c .before .before .before .if1 .left, p .off h .at)))
+    let p = at-next-code c .next-code .ensures .0 .placed in
+    by-lt (at-next-code c .next-code .result .step) noStep (λ h. h) (λ h. absurd (omega (arith, c .before .before .before .if1 .left, p .off h .at)))
 
 same-length : tie.Need-same-length
 same-length c = search needs
@@ -53,13 +60,13 @@ returns-2 c = first-laid (c .before .before .before .before)
 
 lay-run-requires : tie.Need-lay-run-requires
 lay-run-requires c κs =
-    let d = c .before .before .before .before .before .before .before .before .before .before .before .before .before .before in
-    let v = c .before .before .before .before .before .next-code .ensures .0 in
-    let l = first-laid (c .before .before .before .before .before) in (
+    let d = at-start (at-next-code c .before) in
+    let v = at-next-code c .next-code .ensures .0 in
+    let l = first-laid (at-next-code c) in (
       (v .placed, (c .before .if2 .left, omega (arith, c .before .before .before .if1 .left))),
       (
-        later-from (d .args .image .now) (d .args .payload .now) (d .args .w) (d .pre .0) (omega arith) (d .args .from) (l .laid) (c .before .before .before .before .before .next-code .result) (d .pre .1 .0 .0) (l .split),
-        omega (arith, sized (c .before .before .before .before .before .before), d .pre .1 .0),
+        later-from (d .args .image .now) (d .args .payload .now) (d .args .w) (d .pre .0) (omega arith) (d .args .from) (l .laid) (at-next-code c .next-code .result) (d .pre .1 .0 .0) (l .split),
+        omega (arith, sized (at-next-code c .before), d .pre .1 .0),
       ),
     )
 
@@ -68,7 +75,7 @@ same-length-3 c = search needs
 
 returns-3 : tie.Need-returns-3
 returns-3 c =
-    lays-run (first-laid (c .before .before .before .before .before .before .before .before)) (sized (c .before .before .before .before .before .before .before .before .before)) (on-code (c .before .before .before)) (c .before .before .lay-run .ensures)
+    lays-run (first-laid (at-next-code (c .before .before .before))) (sized (at-next-code (c .before .before .before) .before)) (on-code (c .before .before .before)) (c .before .before .lay-run .ensures)
 
 pub lay-codes-spec : {M : Type 1} → statement M
 lay-codes-spec =

@@ -7,7 +7,7 @@ use lib.ListN.{length}
 use Rattle.rules.specs.Limits.Laws.{largest-coded}
 use Rattle.code.specs.Code.{codeValues}
 use Rattle.image_walk.specs.Turns.{codedWalk}
-use Rattle.pair_lay.specs.Fill.{Ran}
+use Rattle.pair_lay.specs.Inside.Runs.{Ran}
 use Rattle.pair_lay.proofs.Running.{ran-turn}
 use Rattle.pair_lay.proofs.lay_run.Statement.{statement}
 use Rattle.pair_lay.proofs.lay_run.Tie as tie

@@ -15,6 +15,13 @@ Inv-loop p from words₀ payload place count i₀ words i = (i ≤ count) × Row
 abbrev μ-loop : tie.MeasureT-loop
 μ-loop p from words₀ payload place count i₀ words i = count - i
 
+-- the places that the answers go back to, each from a later one
+abbrev at-shared-slice-known : tie.At-loop Inv-loop μ-loop → tie.After-shared-slice-known Inv-loop μ-loop
+at-shared-slice-known c = c .before .before .before .before .before
+
+abbrev at-loop : tie.After-slice-known2 Inv-loop μ-loop → tie.At-loop Inv-loop μ-loop
+at-loop c = c .before .before .before .before .before .before .before .before
+
 returns : tie.Need-returns Inv-loop μ-loop
 returns c = let d = c .before .before .before .before in rows-none (d .args .payload .now) (d .args .p) (d .args .from) (d .args .words .now) (d .pre .0 .0)
 
@@ -71,13 +78,13 @@ loop-less c = omega arith
 
 loop-again : tie.Need-loop-again Inv-loop μ-loop
 loop-again c =
-    let d = c .before .before .before .before .before .before .before .before .before .before .before .before .before .before .before in
-    let l = c .before .before .before .before .before .before .before .before .loop in
+    let d = at-shared-slice-known (at-loop c) .before .before in
+    let l = at-loop c .loop in
     let v = c .before .before .before .before .word in
     let at = d .args .p .at + wordBytes * l .i in (
       omega arith,
       rowing-turn (d .args .payload .now) (d .args .p) (d .args .from) (d .args .words .now) (l .i) (l .words) (l .inv .1)
-          (λ j. omega (arith, c .before .before .before .before .before .before .before .before .before .before .before .before .before .shared-slice-known .given j)) (d .pre .1 .0) (v .result)
+          (λ j. omega (arith, at-shared-slice-known (at-loop c) .shared-slice-known .given j)) (d .pre .1 .0) (v .result)
           (v .ensures ∙ ap little (word-part (d .args .payload .now) at (d .args .p .end) (omega arith))) _ (omega arith) (c .before .before .lay .ensures),
     )
 
@@ -98,7 +105,7 @@ same-length c = c .before .before .before .loop .inv .1 .size
 
 returns-2 : tie.Need-returns-2 Inv-loop μ-loop
 returns-2 c =
-    let d = c .before .before .before .before .before .before .before .before .before .before in
+    let d = at-shared-slice-known (c .before .before .before) .before .before in
     let l = c .before .before .before .loop in
     let n = c .before .before .before .before .fitting in
     let e : l .i ≡ n .result = omega (arith, l .inv .0, c .before .before .loop-test .left) in

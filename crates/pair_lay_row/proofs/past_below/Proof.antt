@@ -8,7 +8,7 @@ use Rattle.rules.specs.Limits.Laws.{largest-coded}
 use Rattle.rules.specs.Limits.{noStep}
 use Rattle.image_walk.specs.declared.Rest.{Rest}
 use Rattle.image_walk.specs.Turns.{Left, Turned}
-use Rattle.pair_lay_row.specs.Rows.{Cuts}
+use Rattle.pair_lay_row.specs.Inside.Rows.{Cuts}
 use Rattle.image_walk.proofs.Passing.{on-step}
 use Rattle.pair_lay_row.proofs.Bits.{taken-away}
 use Rattle.pair_lay_row.proofs.Cutting.{word-left, cut-out, cut-to}

@@ -67,7 +67,7 @@ same-length c = c .before .loop .inv .1 .same
 returns-3 : tie.Need-returns-3 Inv-loop μ-loop
 returns-3 c h =
     let l = c .before .loop in
-    storing-end (l .inv .1) (drop-of-length-le (c .before .before .before .before .args .numbers .now) {i = l .i} (omega arith)) .1
+    storing-end (l .inv .1) (drop-of-length-le (c .before .before .before .before .args .numbers .now) {i = l .i} (omega arith)) .stores
 
 pub put-spec : {M : Type 1} → statement M
 put-spec =

@@ -15,6 +15,13 @@ Inv-loop op left right kept₀ n x₀ y₀ i₀ j₀ k₀ t₀ kept x y i j k t 
 abbrev μ-loop : tie.MeasureT-loop
 μ-loop op left right kept₀ n x₀ y₀ i₀ j₀ k₀ t₀ kept x y i j k t = n - t
 
+-- the places that the answers go back to, each from a later one
+abbrev at-start : tie.After-shared-slice-known4 Inv-loop μ-loop → tie.Start Inv-loop μ-loop
+at-start c = c .before .before .before .before .before .before
+
+abbrev at-loop : tie.After-lower2 Inv-loop μ-loop → tie.At-loop Inv-loop μ-loop
+at-loop c = c .before .before .before .before
+
 lower-requires : tie.Need-lower-requires Inv-loop μ-loop
 lower-requires c κs = search needs
 
@@ -32,7 +39,7 @@ cast-y c = omega (arith, c .shared-slice-known4 .given 0)
 
 loop-holds : tie.Need-loop-holds Inv-loop μ-loop
 loop-holds c =
-    let p = c .before .before .before .before .before .before in
+    let p = at-start c in
     let a = p .args in
     (omega (arith, p .pre), going-start (a .op) (a .left .now) (a .right .now) (a .kept .now))
 
@@ -65,8 +72,8 @@ lower-requires-2 c κs = search needs
 
 cast-kept : tie.Need-cast-kept Inv-loop μ-loop
 cast-kept c =
-    let l = c .before .before .before .before .loop in
-    omega (arith, c .lower2 .ensures, l .inv .1 .one, c .before .before .shared-slice-known5 .given (l .i))
+    let l = at-loop c .loop in
+    omega (arith, c .lower2 .ensures, l .inv .1 .first-next, c .before .before .shared-slice-known5 .given (l .i))
 
 mul-kept : tie.Need-mul-kept Inv-loop μ-loop
 mul-kept c = search needs
@@ -87,13 +94,13 @@ cast-i : tie.Need-cast-i Inv-loop μ-loop
 cast-i c = search needs
 
 add-i : tie.Need-add-i Inv-loop μ-loop
-add-i c = let l = c .before .before .before .before .before .loop in omega (arith, bool-most (leb (l .x) (l .y)))
+add-i c = let l = at-loop (c .before) .loop in omega (arith, bool-most (leb (l .x) (l .y)))
 
 cast-j : tie.Need-cast-j Inv-loop μ-loop
 cast-j c = search needs
 
 add-j : tie.Need-add-j Inv-loop μ-loop
-add-j c = let l = c .before .before .before .before .before .loop in omega (arith, bool-most (leb (l .y) (l .x)))
+add-j c = let l = at-loop (c .before) .loop in omega (arith, bool-most (leb (l .y) (l .x)))
 
 chosen-requires : tie.Need-chosen-requires Inv-loop μ-loop
 chosen-requires c κs = search needs
@@ -109,9 +116,9 @@ loop-less c = search needs
 
 loop-again : tie.Need-loop-again Inv-loop μ-loop
 loop-again c =
-    let l = c .before .before .before .before .before .before .before .loop in (
+    let l = at-loop (c .before .before .before) .loop in (
       omega arith,
-      going-turn (l .inv .1) (omega arith) (omega arith) (c .before .before .before .before .before .before .before .before .before .before .before .before .before .before .pre .1 .1 .0) _ _ (c .before .before .keeps .ensures) (c .before .before .before .lower2 .ensures)
+      going-turn (l .inv .1) (omega arith) (omega arith) (at-start (at-loop (c .before .before .before) .before) .pre .1 .1 .0) _ _ (c .before .before .keeps .ensures) (c .before .before .before .lower2 .ensures)
           (c .before .chosen .ensures) (c .chosen2 .ensures),
     )
 
@@ -121,7 +128,7 @@ lower-requires-3 c κs = search needs
 cast-kept-2 : tie.Need-cast-kept-2 Inv-loop μ-loop
 cast-kept-2 c =
     let l = c .before .before .loop in
-    omega (arith, c .lower3 .ensures, l .inv .1 .one, c .before .before .before .before .shared-slice-known3 .given (l .i))
+    omega (arith, c .lower3 .ensures, l .inv .1 .first-next, c .before .before .before .before .shared-slice-known3 .given (l .i))
 
 mul-kept-2 : tie.Need-mul-kept-2 Inv-loop μ-loop
 mul-kept-2 c = search needs
@@ -156,7 +163,7 @@ same-length c = search needs
 returns : tie.Need-returns Inv-loop μ-loop
 returns c =
     let l = c .before .before .before .loop in
-    going-end (l .inv .1) (omega arith) (omega arith) (c .before .before .before .before .before .before .before .before .before .before .pre .1 .1 .0) _ _ (c .keeps2 .ensures) (c .before .lower3 .ensures)
+    going-end (l .inv .1) (omega arith) (omega arith) (at-start (c .before .before .before .before) .pre .1 .1 .0) _ _ (c .keeps2 .ensures) (c .before .lower3 .ensures)
 
 pub turns-spec : {M : Type 1} → statement M
 turns-spec =

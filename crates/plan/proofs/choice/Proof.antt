@@ -8,7 +8,7 @@ use borrow.Author.Needs.{needs}
 use lib.ListN.{length, getD}
 use Rattle.rules.specs.Limits.{mostSteps}
 use Rattle.rules.specs.Listed.{Listed}
-use Rattle.plan.specs.Ahead.{codesAt}
+use Rattle.plan.specs.Inside.Ahead.{codesAt}
 use Rattle.plan.proofs.Ranks.{fits}
 use Rattle.plan.proofs.First.{choose-codes, choose-row, choose-longer-codes, choose-longer-row}
 use Rattle.plan.proofs.choice.Statement.{statement}

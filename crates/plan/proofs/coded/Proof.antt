@@ -3,7 +3,7 @@ use Prim.Native.Nat.{_-_}
 use native.Mathlib.Omega.{arith}
 use lib.ListN.{length}
 use Rattle.rules.specs.Limits.Laws.{most-counted}
-use Rattle.plan.specs.Work.{stride, GoesOn, Scanning}
+use Rattle.plan.specs.Inside.Work.{stride, GoesOn, Scanning}
 use Rattle.plan.proofs.Scans.{scan-start, scan-many}
 use Rattle.plan.proofs.Passes.{ready-on}
 use Rattle.plan.proofs.coded.Statement.{statement}

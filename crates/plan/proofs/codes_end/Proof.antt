@@ -6,8 +6,8 @@ use Prim.Native.Nat.{_+_, _-_}
 use native.Mathlib.Omega.{arith}
 use borrow.Author.Needs.{needs}
 use lib.ListN.{length, getD}
-use Rattle.plan.specs.Ahead.{codesAt}
-use Rattle.plan.specs.Work.{GoesOn, Scanning}
+use Rattle.plan.specs.Inside.Ahead.{codesAt}
+use Rattle.plan.specs.Inside.Work.{GoesOn, Scanning}
 use Rattle.plan.proofs.Ranks.{goes-on, goes-not}
 use Rattle.plan.proofs.Scans.{scan-on, scan-stop, scan-end}
 use Rattle.plan.proofs.Passes.{ready-on}

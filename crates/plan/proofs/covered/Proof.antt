@@ -4,8 +4,8 @@ use Prim.Native.Nat.{_+_, _-_, _≤_}
 use native.Mathlib.Omega.{arith}
 use lib.ListN.{length, getD}
 use Rattle.rules.specs.Limits.Laws.{most-counted}
-use Rattle.plan.specs.Ahead.{reachAt}
-use Rattle.plan.specs.Work.{Scanning}
+use Rattle.plan.specs.Inside.Ahead.{reachAt}
+use Rattle.plan.specs.Inside.Work.{Scanning}
 use Rattle.plan.proofs.Ranks.{reach-rises}
 use Rattle.plan.proofs.Scans.{scan-start, scan-many}
 use Rattle.plan.proofs.covered.Statement.{statement}

@@ -9,8 +9,8 @@ use native.Mathlib.Omega.{arith}
 use borrow.Author.Count.{below-more}
 use lib.ListN.{length, getD}
 use Rattle.rules.specs.Limits.Laws.{most-counted}
-use Rattle.plan.specs.Ahead.{codesAt}
-use Rattle.plan.specs.Work.{GoesOn, AllGoOn}
+use Rattle.plan.specs.Inside.Ahead.{codesAt}
+use Rattle.plan.specs.Inside.Work.{GoesOn, AllGoOn}
 use Rattle.plan.proofs.Ranks.{goes-on}
 use Rattle.plan.proofs.Passes.{ready-on}
 use Rattle.plan.proofs.ends_within.Statement.{statement}

@@ -4,7 +4,7 @@ use Prim.Native.Nat.{ℕ, _+_, _<_}
 use native.Mathlib.Omega.{arith}
 use borrow.Author.Needs.{needs}
 use lib.ListN.{length, getD}
-use Rattle.plan.specs.Ahead.{bytesAt, codesAt}
+use Rattle.plan.specs.Inside.Ahead.{bytesAt, codesAt}
 use Rattle.plan.proofs.Ranks.{bytes-end, bytes-step, fits}
 use Rattle.plan.proofs.fewest.Statement.{statement}
 use Rattle.plan.proofs.fewest.Tie as tie

@@ -4,7 +4,7 @@ use mathlib.Core.Path.{_≡_}
 use native.Mathlib.Omega.{arith}
 use borrow.Author.Needs.{needs}
 use lib.ListN.{getD}
-use Rattle.plan.specs.Ahead.{reachAt}
+use Rattle.plan.specs.Inside.Ahead.{reachAt}
 use Rattle.plan.proofs.Ranks.{Fits, fits}
 use Rattle.plan.proofs.row_at.Statement.{statement}
 use Rattle.plan.proofs.row_at.Tie as tie

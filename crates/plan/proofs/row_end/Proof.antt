@@ -7,9 +7,9 @@ use borrow.Author.Needs.{needs}
 use lib.ListN.{length, getD}
 use Rattle.lists.specs.Rising.{past}
 use Rattle.row.specs.Row.{byteBits}
-use Rattle.plan.specs.Ahead.{reachAt}
+use Rattle.plan.specs.Inside.Ahead.{reachAt}
 use Rattle.plan.proofs.Ranks.{fits}
-use Rattle.plan.specs.Work.{Scanning}
+use Rattle.plan.specs.Inside.Work.{Scanning}
 use Rattle.plan.proofs.Scans.{scan-as, scan-on, scan-stop, scan-end}
 use Rattle.plan.proofs.row_end.Statement.{statement}
 use Rattle.plan.proofs.row_end.Tie as tie

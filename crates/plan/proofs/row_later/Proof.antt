@@ -7,7 +7,7 @@ use borrow.Author.Needs.{needs}
 use lib.ListN.{getD}
 use Rattle.lists.specs.Rising.{past}
 use Rattle.lists.proofs.Ranks.{past-suc}
-use Rattle.plan.specs.Ahead.{reachAt}
+use Rattle.plan.specs.Inside.Ahead.{reachAt}
 use Rattle.plan.proofs.Ranks.{Fits, fits}
 use Rattle.plan.proofs.row_later.Statement.{statement}
 use Rattle.plan.proofs.row_later.Tie as tie

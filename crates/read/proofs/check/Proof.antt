@@ -12,7 +12,7 @@ use Rattle.image.specs.Verdict.{blocksOf, openingOf}
 use Rattle.image.specs.Taken.{entriesIn, payloadIn}
 use Rattle.image.proofs.Verdict.{unseal, verdict-opened, verdict-refused}
 use Rattle.image_directory.specs.Sound.{Sound}
-use Rattle.image_directory.proofs.Whole.{Open, opened-open}
+use Rattle.image_directory.proofs.Whole.{opened-open}
 use Rattle.read.specs.Inside.{answerOf}
 use Rattle.read.specs.Read.{paperOf, checkPaper}
 use Rattle.read.proofs.Outcomes.{checked}

@@ -1,18 +1,11 @@
 -- `read::read` meets its contract: a refusal of the check, a buffer that is too short, or the steps put into its front. Assumes nothing.
-use mathlib.Core.Path.{_≡_, sym, ap, _∙_, subst}
-use mathlib.Core.List.{List}
-use Prim.Native.Nat.{ℕ, _≤_}
+use mathlib.Core.Path.{ap, _∙_}
 use native.Mathlib.Omega.{arith}
 use borrow.Author.Needs.{needs}
-use lib.ListN.{length}
 use lib.Seq.{sets}
 use Rattle.lists.specs.Bytes.{Bytes}
-use Rattle.rules.specs.Numbers.{numberAt}
-use Rattle.image.specs.Taken.{stepsOf, Taken, payloadIn}
-use Rattle.read.specs.Inside.{Ready}
-use Rattle.read.specs.Read.{paperOf, values}
+use Rattle.read.specs.Read.{values}
 use Rattle.rules.specs.Paper.{refusing}
-use Rattle.rules.specs.declared.Refusal.{Refusal}
 use Rattle.image_directory.proofs.Whole.{payload-within}
 use Rattle.read.proofs.Answers.{Yes, answer-yes, answer-no}
 use Rattle.read.proofs.Outcomes.{read-no, read-short, read-full, taken-ready, taken-list, yes-taken-is}

@@ -19,6 +19,10 @@ Inv-loop part i₀ i = (i ≤ length part) × (rowSteps 0 part ≡ rowSteps 0 (t
 abbrev μ-loop : tie.MeasureT-loop
 μ-loop part i₀ i = i
 
+-- the places that the answers go back to, each from a later one
+abbrev at-start : tie.In-loop Inv-loop μ-loop → tie.Start Inv-loop μ-loop
+at-start c = c .before .before .before
+
 loop-holds : tie.Need-loop-holds Inv-loop μ-loop
 loop-holds c = (omega arith, ap (rowSteps 0) (sym (take-length (c .before .args .part .now))))
 
@@ -45,7 +49,7 @@ sub-result c = omega (arith, leading-le 64 (c .before .wide .result))
 
 returns : tie.Need-returns Inv-loop μ-loop
 returns c =
-    let a = c .before .before .before .before .before .before .args in
+    let a = at-start (c .before .before .before) .args in
     let l = c .before .before .before .before .loop in
     let w = c .before .wide in
     last-here (a .part .now) (l .i) (w .result) (omega arith) (omega arith) (w .ensures .0) (omega arith) (w .ensures .1)
@@ -56,7 +60,7 @@ loop-less c = omega arith
 
 loop-again : tie.Need-loop-again Inv-loop μ-loop
 loop-again c =
-    let a = c .before .before .before .before .before .before .args in
+    let a = at-start (c .before .before .before) .args in
     let l = c .before .before .before .before .loop in
     let w = c .before .wide in
     (omega arith, l .inv .1 ∙ last-before (a .part .now) (l .i) (w .result) (omega arith) (omega arith) (w .ensures .0) (omega arith))

@@ -17,6 +17,10 @@ Inv-loop part from at k i₀ left₀ i left = Seeking (rowLeft from part at) k (
 abbrev μ-loop : tie.MeasureT-loop
 μ-loop part from at k i₀ left₀ i left = length part - i
 
+-- the places that the answers go back to, each from a later one
+abbrev at-loop : tie.After-ones Inv-loop μ-loop → tie.At-loop Inv-loop μ-loop
+at-loop c = c .before .before .before .before
+
 loop-holds : tie.Need-loop-holds Inv-loop μ-loop
 loop-holds c = seeking-start _ _ (c .before .pre .1 .1)
 
@@ -41,12 +45,12 @@ kth-requires c κs =
     (w .ensures .1, omega (arith, byte-most (w .result) (c .before .ones .result) (w .ensures .1) (c .before .ones .ensures .0)))
 
 add-result-2 : tie.Need-add-result-2 Inv-loop μ-loop
-add-result-2 c = omega (arith, c .kth .ensures, kth-most (c .before .before .before .wide .result) (c .before .before .before .before .before .before .loop .left))
+add-result-2 c = omega (arith, c .kth .ensures, kth-most (c .before .before .before .wide .result) (at-loop (c .before .before) .loop .left))
 
 returns : tie.Need-returns Inv-loop μ-loop
 returns c =
-    let a = c .before .before .before .before .before .before .before .before .args in
-    let l = c .before .before .before .before .before .before .loop in
+    let a = at-loop (c .before .before) .before .before .args in
+    let l = at-loop (c .before .before) .loop in
     let w = c .before .before .before .wide in
     let n = c .before .before .ones in
     ap (λ (j : ℕ). a .from + byteBits * l .i + j) (c .kth .ensures)
@@ -60,8 +64,8 @@ loop-less c = omega arith
 
 loop-again : tie.Need-loop-again Inv-loop μ-loop
 loop-again c =
-    let a = c .before .before .before .before .before .before .before .args in
-    let l = c .before .before .before .before .before .loop in
+    let a = at-loop (c .before) .before .before .args in
+    let l = at-loop (c .before) .loop in
     let w = c .before .before .wide in
     let n = c .before .ones in
     seeking-byte-past (a .from) (a .part .now) (l .i) (l .inv) (w .result) (n .result) (omega arith) (w .ensures .0) (w .ensures .1) (n .ensures .0) (c .if1 .left)

@@ -12,6 +12,13 @@ use Rattle.row.proofs.Row.{row-parts, length-row-parts}
 use Rattle.row_read.proofs.steps.Statement.{statement}
 use Rattle.row_read.proofs.steps.Tie as tie
 
+-- the places that the answers go back to, each from a later one
+abbrev at-start : tie.After-steps-in-arg2 → tie.Start
+at-start c = c .before .before .before .before .before
+
+abbrev at-steps-in : tie.After-steps-exact-arg3 → tie.After-steps-in
+at-steps-in c = c .before .before .before .before
+
 steps-exact-requires : tie.Need-steps-exact-requires
 steps-exact-requires c κs = search needs
 
@@ -31,7 +38,7 @@ slice-aggregate-steps-in c =
 
 steps-in-requires : tie.Need-steps-in-requires
 steps-in-requires c κs =
-    let p = c .before .before .before .before .before in
+    let p = at-start c in
     let s = p .args .part .now in
     let n : ℕ = length s - 16 in (
       omega (arith, length-take-le n s (omega arith), p .pre .0),
@@ -55,12 +62,12 @@ add-steps-exact c = search needs
 
 steps-exact-requires-2 : tie.Need-steps-exact-requires-2
 steps-exact-requires-2 c κs =
-    let p = c .before .before .before .before .before .before .before .before .before .before in
+    let p = at-start (at-steps-in c .before) in
     let s = p .args .part .now in
     let n : ℕ = length s - 16 in
-    let g = c .before .before .before .before .steps-in in (
+    let g = at-steps-in c .steps-in in (
       omega (arith, length-take-le (length s - n) (drop n s) (omega (arith, length-drop n s)), p .pre .0),
-      omega (arith, g .ensures .0, g .kept .1 .1 .0, length-row-parts (p .args .from) s n (omega arith), p .pre .1),
+      omega (arith, g .ensures .place, g .kept .1 .1 .0, length-row-parts (p .args .from) s n (omega arith), p .pre .1),
     )
 
 same-length-2 : tie.Need-same-length-2
@@ -68,20 +75,22 @@ same-length-2 c = search needs
 
 returns-2 : tie.Need-returns-2
 returns-2 c =
-    let a = c .before .before .before .before .before .before .before .before .before .before .before .before .before .args in
+    let a = at-start (at-steps-in (c .before .before .before) .before) .args in
     let s = a .part .now in
     let n : ℕ = length s - 16 in
-    let g = c .before .before .before .before .before .before .before .steps-in in
+    let g = at-steps-in (c .before .before .before) .steps-in in
     let h = c .before .before .steps-exact2 .ensures in
     let one : List ℕ = rowSteps (a .from) (take n s) in
-    let other : List ℕ = rowSteps (a .from + byteBits * n) (take (length s - n) (drop n s)) in (
-      omega (arith, h .0, g .ensures .0, length-row-parts (a .from) s n (omega arith)),
-      h .1
-          ∙ ap (λ (l : List ℕ). sets l (g .result) other) (g .ensures .1)
-          ∙ ap (λ (k : ℕ). sets (sets (a .out .now) (a .at) one) k other) (g .ensures .0)
+    let other : List ℕ = rowSteps (a .from + byteBits * n) (take (length s - n) (drop n s)) in
+    record {
+      place = omega (arith, h .place, g .ensures .place, length-row-parts (a .from) s n (omega arith));
+      stores =
+          h .stores
+          ∙ ap (λ (l : List ℕ). sets l (g .result) other) (g .ensures .stores)
+          ∙ ap (λ (k : ℕ). sets (sets (a .out .now) (a .at) one) k other) (g .ensures .place)
           ∙ sym (sets-append (a .out .now) (a .at) one other)
-          ∙ ap (sets (a .out .now) (a .at)) (sym (row-parts (a .from) s n (omega arith))),
-    )
+          ∙ ap (sets (a .out .now) (a .at)) (sym (row-parts (a .from) s n (omega arith)));
+    }
 
 pub steps-spec : {M : Type 1} → statement M
 steps-spec =

@@ -6,6 +6,10 @@ use Rattle.row_word.proofs.Loosely.{put-back}
 use Rattle.row_read.proofs.steps_before.Statement.{statement}
 use Rattle.row_read.proofs.steps_before.Tie as tie
 
+-- the places that the answers go back to, each from a later one
+abbrev at-steps-loose : tie.After-slice-known7 → tie.After-steps-loose
+at-steps-loose c = c .before .before .before .before .before .before
+
 mul-first : tie.Need-mul-first
 mul-first c = search needs
 
@@ -50,10 +54,13 @@ same-length c = search needs
 
 returns : tie.Need-returns
 returns c =
-    let s = c .before .before .before .before .before .before .before .before .before .before .before .before .before .before in
+    let s = at-steps-loose c .before .before .before .before .before .before .before .before in
     let a = s .args in
-    let g = c .before .before .before .before .before .before .steps-loose .ensures in
-    (g .0, c .before .before .put-four .ensures ∙ put-back (a .out .now) (a .at) (rowSteps (a .from) (a .part .now)) _ _ _ _ _ _ _ (g .1) (s .pre .1 .0) (s .pre .1 .0) refl refl refl refl)
+    let g = at-steps-loose c .steps-loose .ensures in
+    record {
+      place = g .place;
+      stores = c .before .before .put-four .ensures ∙ put-back (a .out .now) (a .at) (rowSteps (a .from) (a .part .now)) _ _ _ _ _ _ _ (g .loose) (s .pre .1 .0) (s .pre .1 .0) refl refl refl refl;
+    }
 
 pub steps-before-spec : {M : Type 1} → statement M
 steps-before-spec =

@@ -17,6 +17,16 @@ Inv-loop part from out₀ at places i₀ k₀ out i k = Putting part from out₀
 abbrev μ-loop : tie.MeasureT-loop
 μ-loop part from out₀ at places i₀ k₀ out i k = length part - i
 
+-- the places that the answers go back to, each from a later one
+abbrev at-start : tie.At-loop Inv-loop μ-loop → tie.Start Inv-loop μ-loop
+at-start c = c .before .before .before
+
+abbrev at-shared-slice-known : tie.After-put-ones-arg Inv-loop μ-loop → tie.After-shared-slice-known Inv-loop μ-loop
+at-shared-slice-known c = c .before .before .before .before .before
+
+abbrev at-loop : tie.After-put-by-table-arg Inv-loop μ-loop → tie.At-loop Inv-loop μ-loop
+at-loop c = c .before .before .before .before
+
 loop-holds : tie.Need-loop-holds Inv-loop μ-loop
 loop-holds c =
     let a = c .before .before .args in
@@ -38,10 +48,10 @@ add-put-by-table : tie.Need-add-put-by-table Inv-loop μ-loop
 add-put-by-table c = omega arith
 
 room : (c : tie.After-put-by-table-arg Inv-loop μ-loop)
-    → Room (c .before .before .before .before .before .before .before .args .from) (c .before .before .before .before .loop .i) (c .before .word-at .result) (c .before .before .before .before .loop .out) (c .before .before .before .before .loop .k)
+    → Room (at-start (at-loop c) .args .from) (at-loop c .loop .i) (c .before .word-at .result) (at-loop c .loop .out) (at-loop c .loop .k)
 room c =
     let w = c .before .word-at in
-    putting-room (c .before .before .before .before .loop .inv) (λ j. c .before .before .before .before .before .before .shared-slice-known .given j .fits) (w .result) (omega arith) (w .ensures) (c .before .before .before .before .before .before .before .pre .0)
+    putting-room (at-loop c .loop .inv) (λ j. at-loop c .before .before .shared-slice-known .given j .fits) (w .result) (omega arith) (w .ensures) (at-start (at-loop c) .pre .0)
 
 put-by-table-requires : tie.Need-put-by-table-requires Inv-loop μ-loop
 unfolding allPlaces placesFrom countsFrom bitsFrom
@@ -56,7 +66,7 @@ loop-less c = omega arith
 loop-again : tie.Need-loop-again Inv-loop μ-loop
 loop-again c =
     let w = c .before .before .before .before .word-at in
-    putting-turn (c .before .before .before .before .before .before .before .loop .inv) (λ j. c .before .before .before .before .before .before .before .before .before .shared-slice-known .given j .fits) (w .result) (omega arith) (w .ensures) (c .before .before .put-by-table .ensures)
+    putting-turn (at-loop (c .before .before .before) .loop .inv) (λ j. at-loop (c .before .before .before) .before .before .shared-slice-known .given j .fits) (w .result) (omega arith) (w .ensures) (c .before .before .put-by-table .ensures)
 
 last-word-requires : tie.Need-last-word-requires Inv-loop μ-loop
 last-word-requires c κs = (c .before .loop .inv .few, omega arith)
@@ -70,15 +80,15 @@ add-put-ones c = omega arith
 put-ones-requires : tie.Need-put-ones-requires Inv-loop μ-loop
 put-ones-requires c κs =
     let w = c .before .last-word in
-    putting-room-rest (c .before .before .before .loop .inv) (λ j. c .before .before .before .before .before .shared-slice-known .given j .fits) (w .result) (omega arith) (w .ensures) (c .before .before .before .before .before .before .pre .0)
+    putting-room-rest (c .before .before .before .loop .inv) (λ j. at-shared-slice-known c .shared-slice-known .given j .fits) (w .result) (omega arith) (w .ensures) (at-shared-slice-known c .before .pre .0)
 
 same-length : tie.Need-same-length Inv-loop μ-loop
-same-length c = ap length (c .before .before .put-ones .ensures .1) ∙ simp length-sets (c .before .before .before .before .before .before .loop .inv .storing .same)
+same-length c = ap length (c .before .before .put-ones .ensures .stores) ∙ simp length-sets (c .before .before .before .before .before .before .loop .inv .storing .same)
 
 returns : tie.Need-returns Inv-loop μ-loop
 returns c =
     let w = c .before .before .before .before .last-word in
-    putting-end (c .before .before .before .before .before .before .loop .inv) (λ j. c .before .before .before .before .before .before .before .before .shared-slice-known .given j .fits) (w .result) (omega arith) (w .ensures) (c .before .before .put-ones .ensures)
+    putting-end (c .before .before .before .before .before .before .loop .inv) (λ j. at-shared-slice-known (c .before .before .before) .shared-slice-known .given j .fits) (w .result) (omega arith) (w .ensures) (c .before .before .put-ones .ensures)
 
 pub steps-exact-spec : {M : Type 1} → statement M
 steps-exact-spec =

@@ -16,6 +16,13 @@ Inv-loop part from out₀ at places i₀ k₀ out i k = Running part from out₀
 abbrev μ-loop : tie.MeasureT-loop
 μ-loop part from out₀ at places i₀ k₀ out i k = length part - i
 
+-- the places that the answers go back to, each from a later one
+abbrev at-shared-slice-known : tie.After-put-ones-arg Inv-loop μ-loop → tie.After-shared-slice-known Inv-loop μ-loop
+at-shared-slice-known c = c .before .before .before .before .before
+
+abbrev at-loop : tie.After-put-loose-arg Inv-loop μ-loop → tie.At-loop Inv-loop μ-loop
+at-loop c = c .before .before .before .before
+
 loop-holds : tie.Need-loop-holds Inv-loop μ-loop
 loop-holds c =
     let a = c .before .before .args in
@@ -37,11 +44,11 @@ add-put-loose : tie.Need-add-put-loose Inv-loop μ-loop
 add-put-loose c = omega arith
 
 room : (c : tie.After-put-loose-arg Inv-loop μ-loop)
-    → c .before .before .before .before .loop .k + length (wordSteps (c .before .before .before .before .before .before .before .args .from) (c .before .before .before .before .loop .i) (c .before .word-at .result)) + groupBits
-    ≤ length (c .before .before .before .before .loop .out)
+    → at-loop c .loop .k + length (wordSteps (at-loop c .before .before .before .args .from) (at-loop c .loop .i) (c .before .word-at .result)) + groupBits
+    ≤ length (at-loop c .loop .out)
 room c =
     let w = c .before .word-at in
-    running-room (c .before .before .before .before .loop .inv) (λ j. c .before .before .before .before .before .before .shared-slice-known .given j .fits) (w .result) (omega arith) (w .ensures)
+    running-room (at-loop c .loop .inv) (λ j. at-loop c .before .before .shared-slice-known .given j .fits) (w .result) (omega arith) (w .ensures)
 
 put-loose-requires : tie.Need-put-loose-requires Inv-loop μ-loop
 unfolding allPlaces placesFrom countsFrom bitsFrom
@@ -57,7 +64,7 @@ loop-again : tie.Need-loop-again Inv-loop μ-loop
 loop-again c =
     let f = c .before .before .put-loose in
     let w = c .before .before .before .before .word-at in
-    running-turn (c .before .before .before .before .before .before .before .loop .inv) (λ j. c .before .before .before .before .before .before .before .before .before .shared-slice-known .given j .fits) (w .result) (omega arith) (w .ensures) (f .kept .1 .1 .1 .0) (f .ensures .0) (f .ensures .1)
+    running-turn (at-loop (c .before .before .before) .loop .inv) (λ j. at-loop (c .before .before .before) .before .before .shared-slice-known .given j .fits) (w .result) (omega arith) (w .ensures) (f .kept .1 .1 .1 .0) (f .ensures)
 
 last-word-requires : tie.Need-last-word-requires Inv-loop μ-loop
 last-word-requires c κs = (c .before .loop .inv .few, omega arith)
@@ -71,7 +78,7 @@ add-put-ones c = omega arith
 put-ones-requires : tie.Need-put-ones-requires Inv-loop μ-loop
 put-ones-requires c κs =
     let w = c .before .last-word in
-    running-room-rest (c .before .before .before .loop .inv) (λ j. c .before .before .before .before .before .shared-slice-known .given j .fits) (w .result) (omega arith) (w .ensures) (c .before .before .before .before .before .before .pre .0)
+    running-room-rest (c .before .before .before .loop .inv) (λ j. at-shared-slice-known c .shared-slice-known .given j .fits) (w .result) (omega arith) (w .ensures) (at-shared-slice-known c .before .pre .0)
 
 same-length : tie.Need-same-length Inv-loop μ-loop
 same-length c = c .before .before .put-ones .kept .1 .1 .0 ∙ c .before .before .before .before .before .before .loop .inv .loosely .same
@@ -80,7 +87,7 @@ returns : tie.Need-returns Inv-loop μ-loop
 returns c =
     let f = c .before .before .put-ones in
     let w = c .before .before .before .before .last-word in
-    running-end (c .before .before .before .before .before .before .loop .inv) (λ j. c .before .before .before .before .before .before .before .before .shared-slice-known .given j .fits) (w .result) (omega arith) (w .ensures) (f .kept .1 .1 .0) (f .ensures)
+    running-end (c .before .before .before .before .before .before .loop .inv) (λ j. at-shared-slice-known (c .before .before .before) .shared-slice-known .given j .fits) (w .result) (omega arith) (w .ensures) (f .kept .1 .1 .0) (f .ensures)
 
 pub steps-loose-spec : {M : Type 1} → statement M
 steps-loose-spec =

@@ -63,8 +63,12 @@ same-length c = c .before .loop .inv .1 .same
 
 returns : tie.Need-returns Inv-loop μ-loop
 returns c =
+    let a = c .before .before .args in
     let l = c .before .loop in
-    (refl, storing-end (l .inv .1) (full-end wordBits (l .j) (c .before .before .args .from) (omega arith)) .1)
+    record {
+      place = omega (arith, length-full wordBits (a .from) (2 ^ wordBits - 1) refl);
+      stores = storing-end (l .inv .1) (full-end wordBits (l .j) (a .from) (omega arith)) .stores;
+    }
 
 pub put-full-spec : {M : Type 1} → statement M
 put-full-spec =

@@ -35,7 +35,7 @@ loop-less c = omega arith
 loop-again : tie.Need-loop-again Inv-loop μ-loop
 loop-again c =
     let f = c .before .before .put-group in
-    grouping-turn (c .before .before .before .before .before .loop .inv) (omega arith) (f .kept .1 .1 .1 .0) (f .ensures .0) (f .ensures .1)
+    grouping-turn (c .before .before .before .before .before .loop .inv) (omega arith) (f .kept .1 .1 .1 .0) (f .ensures)
 
 same-length : tie.Need-same-length Inv-loop μ-loop
 same-length c = c .before .loop .inv .loosely .same

@@ -1,7 +1,6 @@
 -- `row_word::put_loose` meets its contract: what leaves no place loose leaves four at the most. Assumes nothing.
 use native.Mathlib.Omega.{arith}
 use borrow.Author.Needs.{needs}
-use Rattle.row.specs.Row.{bitsFrom}
 use Rattle.row.specs.Words.{wordBits}
 use Rattle.row.proofs.Bits.{beyond-bits}
 use Rattle.row_word.proofs.Loosely.{exact-loose}
@@ -21,8 +20,7 @@ same-length c = search needs
 returns : tie.Need-returns
 returns c =
     let a = c .before .before .before .before .before .before .before .args in
-    let r = full-stored (a .word) (a .from) (a .out .now) (a .at) (c .before .before .before .before .if1 .taken) (c .before .before .put-full .ensures) in
-    (r .0, exact-loose (a .out .now) (a .at) (bitsFrom wordBits (a .from) (a .word)) _ (r .1))
+    exact-loose (full-stored (a .word) (a .from) (a .out .now) (a .at) (c .before .before .before .before .if1 .taken) (c .before .before .put-full .ensures))
 
 ones-requires : tie.Need-ones-requires
 ones-requires c κs = search needs
@@ -36,10 +34,7 @@ same-length-2 : tie.Need-same-length-2
 same-length-2 c = search needs
 
 returns-2 : tie.Need-returns-2
-returns-2 c =
-    let a = c .before .before .before .before .before .before .before .before .before .args in
-    let r = c .before .before .put-ones .ensures in
-    (r .0, exact-loose (a .out .now) (a .at) (bitsFrom wordBits (a .from) (a .word)) _ (r .1))
+returns-2 c = exact-loose (c .before .before .put-ones .ensures)
 
 put-groups-requires : tie.Need-put-groups-requires
 put-groups-requires c κs = search needs

@@ -48,7 +48,7 @@ returns : tie.Need-returns Inv-loop μ-loop
 returns c =
     let l = c .before .loop in
     let q : c .before .before .args .n - l .b ≡ 0 = omega arith in
-    storing-end (l .inv .1) (ap (λ (k : ℕ). bytesFrom k 0 []) q ∙ bytes-from-none 0 []) .1
+    storing-end (l .inv .1) (ap (λ (k : ℕ). bytesFrom k 0 []) q ∙ bytes-from-none 0 []) .stores
 
 pub clear-spec : {M : Type 1} → statement M
 clear-spec =

@@ -3,7 +3,7 @@ use mathlib.Core.Path.{_≡_, refl, ap, _∙_}
 use Prim.Native.Nat.{ℕ, _-_, _≤_}
 use native.Mathlib.Omega.{arith}
 use lib.ListN.{length, drop}
-use Rattle.row_write.specs.Marks.{marked, Markable}
+use Rattle.row_write.specs.Inside.Marks.{marked, Markable}
 use Rattle.row_write.proofs.Marking.{mark-from, mark-room, mark-next, mark-turn, mark-fits}
 use Rattle.row_write.proofs.mark.Statement.{statement}
 use Rattle.row_write.proofs.mark.Tie as tie
@@ -14,6 +14,13 @@ Inv-loop list i end from out₀ at k₀ out k =
 
 abbrev μ-loop : tie.MeasureT-loop
 μ-loop list i end from out₀ at k₀ out k = end - k
+
+-- the places that the answers go back to, each from a later one
+abbrev at-start : tie.At-loop Inv-loop μ-loop → tie.Start Inv-loop μ-loop
+at-start c = c .before .before .before
+
+abbrev at-loop : tie.After-add-arg Inv-loop μ-loop → tie.At-loop Inv-loop μ-loop
+at-loop c = c .before .before .before .before
 
 loop-holds : tie.Need-loop-holds Inv-loop μ-loop
 loop-holds c = (omega arith, refl, c .before .before .pre .0, refl)
@@ -35,12 +42,12 @@ one-at-requires c κs = omega arith
 
 add-add : tie.Need-add-add Inv-loop μ-loop
 add-add c =
-    let l = c .before .before .before .before .loop in
-    omega (arith, mark-room (l .inv .2) (l .k) (omega arith), l .inv .1, c .before .before .before .before .before .before .before .good)
+    let l = at-loop c .loop in
+    omega (arith, mark-room (l .inv .2) (l .k) (omega arith), l .inv .1, at-start (at-loop c) .good)
 
 add-requires : tie.Need-add-requires Inv-loop μ-loop
 add-requires c κs =
-    let m = c .before .before .before .before .loop .inv .2 in
+    let m = at-loop c .loop .inv .2 in
     (mark-room m _ (omega arith), mark-fits m (omega arith) _ (c .before .one-at .ensures .0))
 
 add-k : tie.Need-add-k Inv-loop μ-loop
@@ -51,7 +58,7 @@ loop-less c = omega arith
 
 loop-again : tie.Need-loop-again Inv-loop μ-loop
 loop-again c =
-    let l = c .before .before .before .before .before .before .before .loop in
+    let l = at-loop (c .before .before .before) .loop in
     let a = c .before .before .add in
     let e = mark-turn (l .inv .2) (omega arith) _ (c .before .before .before .before .one-at .ensures .0) (a .ensures) in
     (omega arith, a .kept .1 .0 ∙ l .inv .1, mark-next (l .inv .2) (a .kept .1 .0) e, e ∙ l .inv .3)
@@ -61,7 +68,7 @@ same-length c = c .before .loop .inv .1
 
 returns : tie.Need-returns Inv-loop μ-loop
 returns c =
-    let a = c .before .before .before .before .args in
+    let a = at-start (c .before) .args in
     let l = c .before .loop in
     let q : a .end ≡ l .k = omega arith in
     ap (λ (k : ℕ). marked (a .from) (a .at) (drop k (a .list .now)) (l .out)) q ∙ l .inv .3

@@ -10,6 +10,13 @@ use Rattle.row_write.proofs.Marking.{mark-from, mark-room, neighbours-r
 use Rattle.row_write.proofs.mark_neighbours.Statement.{statement}
 use Rattle.row_write.proofs.mark_neighbours.Tie as tie
 
+-- the places that the answers go back to, each from a later one
+abbrev at-start : tie.After-one-at → tie.Start
+at-start c = c .before .before .before .before
+
+abbrev at-one-at : tie.After-add-arg2 → tie.After-one-at
+at-one-at c = c .before .before .before .before .before
+
 mul-bit : tie.Need-mul-bit
 mul-bit c = search needs
 
@@ -30,17 +37,17 @@ sub-add c = search needs
 
 add-add : tie.Need-add-add
 add-add c =
-    let s = c .before .before .before .before .before in
+    let s = at-start (c .before) in
     omega (arith, mark-room (s .pre .0) (s .args .i) (omega arith), s .good)
 
 add-requires : tie.Need-add-requires
 add-requires c κs =
-    let p = c .before .before .before .before .before .pre in
+    let p = at-start (c .before) .pre in
     (mark-room (p .0) _ (omega arith), neighbours-fits (p .0) _ (p .1 .0) (p .1 .1) (c .before .one-at .ensures .0))
 
 sub-add-2 : tie.Need-sub-add-2
 sub-add-2 c =
-    let a = c .before .before .before .before .before .before .before .before .args in
+    let a = at-start (c .before .before .before .before) .args in
     omega (arith, c .before .before .before .before .one-at .ensures .0, pow-pos ((getD (a .list .now) (a .i) 0 - a .from) % byteBits))
 
 sub-add-3 : tie.Need-sub-add-3
@@ -48,18 +55,18 @@ sub-add-3 c = search needs
 
 add-add-2 : tie.Need-add-add-2
 add-add-2 c =
-    let a = c .before .before .before .before .before .before .before .before .before .args in
-    omega (arith, c .before .before .before .before .before .before .shared-slice-known2 .given (a .i) .fits)
+    let a = at-start (at-one-at c) .args in
+    omega (arith, at-one-at c .before .shared-slice-known2 .given (a .i) .fits)
 
 add-add-3 : tie.Need-add-add-3
 add-add-3 c =
-    let s = c .before .before .before .before .before .before .before .before .before in
-    omega (arith, neighbours-room (s .pre .0) _ (s .pre .1 .0) (s .pre .1 .1) (c .before .before .before .before .before .one-at .ensures .0), s .good)
+    let s = at-start (at-one-at c) in
+    omega (arith, neighbours-room (s .pre .0) _ (s .pre .1 .0) (s .pre .1 .1) (at-one-at c .one-at .ensures .0), s .good)
 
 add-requires-2 : tie.Need-add-requires-2
 add-requires-2 c κs =
-    let p = c .before .before .before .before .before .before .before .before .before .pre in
-    let b = c .before .before .before .before .before .one-at .ensures .0 in
+    let p = at-start (at-one-at c) .pre in
+    let b = at-one-at c .one-at .ensures .0 in
     let f = c .before .before .before .add .ensures in
     (neighbours-room-next (p .0) _ (p .1 .0) (p .1 .1) b f, neighbours-fits-next (p .0) _ (p .1 .0) (p .1 .1) b f)
 
@@ -68,8 +75,8 @@ same-length c = search needs
 
 returns : tie.Need-returns
 returns c =
-    let p = c .before .before .before .before .before .before .before .before .before .before .before .before .pre in
-    let b = c .before .before .before .before .before .before .before .before .one-at .ensures .0 in
+    let p = at-start (at-one-at (c .before .before .before)) .pre in
+    let b = at-one-at (c .before .before .before) .one-at .ensures .0 in
     let f = c .before .before .before .before .before .before .add .ensures in
     neighbours-turn (p .0) _ (p .1 .0) (p .1 .1) b f (c .before .before .add2 .ensures)
 

@@ -4,7 +4,7 @@ use Prim.Native.Nat.{ℕ, _+_, _-_, _%_, _≤_}
 use native.Mathlib.Omega.{arith}
 use lib.ListN.{length, drop}
 use Rattle.row.specs.Row.{byteBits}
-use Rattle.row_write.specs.Marks.{marked, Markable}
+use Rattle.row_write.specs.Inside.Marks.{marked, Markable}
 use Rattle.row_write.proofs.Marking.{marked-start, mark-start, mark-next, marked-end}
 use Rattle.row_write.proofs.put.Statement.{statement}
 use Rattle.row_write.proofs.put.Tie as tie
@@ -15,6 +15,16 @@ Inv-loop list from out₀ at bytes whole i₀ out i =
 
 abbrev μ-loop : tie.MeasureT-loop
 μ-loop list from out₀ at bytes whole i₀ out i = whole - i
+
+-- the places that the answers go back to, each from a later one
+abbrev at-start : tie.After-clear Inv-loop μ-loop → tie.Start Inv-loop μ-loop
+at-start c = c .before .before .before .before .before
+
+abbrev at-clear : tie.At-loop Inv-loop μ-loop → tie.After-clear Inv-loop μ-loop
+at-clear c = c .before .before .before
+
+abbrev at-loop : tie.After-slice-known4 Inv-loop μ-loop → tie.At-loop Inv-loop μ-loop
+at-loop c = c .before .before .before .before .before
 
 size-requires : tie.Need-size-requires Inv-loop μ-loop
 size-requires c κs = c .before .before .pre .0
@@ -27,7 +37,7 @@ mul-whole c = omega arith
 
 loop-holds : tie.Need-loop-holds Inv-loop μ-loop
 loop-holds c =
-    let s = c .before .before .before .before .before .before .before in
+    let s = at-start (c .before .before) in
     let a = s .args in
     let z = c .before .before .clear .ensures in
     let m = mark-start (a .from) (a .at) _ (a .list .now) (a .out .now) _ (s .pre .0) (c .before .before .before .before .size .ensures .0) (s .pre .1) z (λ j. c .before .before .before .before .before .slice-known .given j .fits) in
@@ -58,28 +68,30 @@ mark-requires c κs =
 
 add-result : tie.Need-add-result Inv-loop μ-loop
 add-result c =
-    let s = c .before .before .before .before .before .before .before .before .before .before .before .before .before in
-    omega (arith, c .before .before .before .before .before .before .before .before .before .before .size .ensures .0, s .pre .1, s .good)
+    let s = at-start (at-clear (at-loop c)) in
+    omega (arith, at-clear (at-loop c) .before .before .size .ensures .0, s .pre .1, s .good)
 
 same-length : tie.Need-same-length Inv-loop μ-loop
 same-length c =
-    let l = c .before .before .before .before .before .loop in
-    c .before .before .mark .kept .1 .1 .1 .1 .0 ∙ l .inv .2 ∙ c .before .before .before .before .before .before .before .before .clear .kept .0
+    let l = at-loop c .loop in
+    c .before .before .mark .kept .1 .1 .1 .1 .0 ∙ l .inv .2 ∙ at-clear (at-loop c) .clear .kept .0
 
 returns : tie.Need-returns Inv-loop μ-loop
 returns c =
-    let s = c .before .before .before .before .before .before .before .before .before .before .before .before .before in
+    let s = at-start (at-clear (at-loop c)) in
     let a = s .args in
-    let n = c .before .before .before .before .before .before .before .before .before .before .size .ensures .0 in
-    let z = c .before .before .before .before .before .before .before .before .clear .ensures in
-    let l = c .before .before .before .before .before .loop in
-    let f = c .before .before .mark in (
-      ap (λ (k : ℕ). a .at + k) n,
-      sym (marked-end (a .from) (a .at) (length (a .list .now)) (a .list .now) _ (omega arith))
+    let n = at-clear (at-loop c) .before .before .size .ensures .0 in
+    let z = at-clear (at-loop c) .clear .ensures in
+    let l = at-loop c .loop in
+    let f = c .before .before .mark in
+    record {
+      place = ap (λ (k : ℕ). a .at + k) n;
+      stores =
+          sym (marked-end (a .from) (a .at) (length (a .list .now)) (a .list .now) _ (omega arith))
           ∙ f .ensures
           ∙ l .inv .4
-          ∙ marked-start (a .from) (a .at) _ (a .list .now) (a .out .now) _ (s .pre .0) n (s .pre .1) z,
-    )
+          ∙ marked-start (a .from) (a .at) _ (a .list .now) (a .out .now) _ (s .pre .0) n (s .pre .1) z;
+    }
 
 pub put-spec : {M : Type 1} → statement M
 put-spec =

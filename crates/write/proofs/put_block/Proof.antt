@@ -8,7 +8,7 @@ use lib.Seq.{sets}
 use Rattle.image.specs.declared.Entry.{Entry}
 use Rattle.image.specs.Entry.{entryBytes}
 use Rattle.image.specs.Grammar.{entryOf}
-use Rattle.write.specs.Blocks.{blockAt}
+use Rattle.write.specs.Inside.Blocks.{blockAt}
 use Rattle.write.proofs.Parts.{entry-within}
 use Rattle.write.proofs.put_block.Statement.{statement}
 use Rattle.write.proofs.put_block.Tie as tie
@@ -45,12 +45,12 @@ returns c =
     let a = s .args in
     let e = part .put-part .ensures in
     record {
-      place = e .0;
+      place = e .place;
       stores =
           last .put-entry .ensures
           ∙ ap (λ (x : Entry). sets (part .put-part .last .1 .1 .1 .0) (a .at) (entryBytes x))
-          (entry-within (a .list .now) (a .i) (a .word) (s .pre .0 .2) (e .0))
-          ∙ ap (λ (l : List ℕ). sets l (a .at) (entryBytes (entryOf (a .list .now) (a .i) (a .p - a .base) (blockAt (a .word))))) (e .1);
+          (entry-within (a .list .now) (a .i) (a .word) (s .pre .0 .2) (e .place))
+          ∙ ap (λ (l : List ℕ). sets l (a .at) (entryBytes (entryOf (a .list .now) (a .i) (a .p - a .base) (blockAt (a .word))))) (e .stores);
     }
 
 pub put-block-spec : {M : Type 1} → statement M

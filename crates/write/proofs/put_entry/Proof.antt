@@ -6,6 +6,10 @@ use Rattle.write.proofs.Parts.{entry-stored}
 use Rattle.write.proofs.put_entry.Statement.{statement}
 use Rattle.write.proofs.put_entry.Tie as tie
 
+-- the places that the answers go back to, each from a later one
+abbrev at-start : tie.After-put-number-arg2 → tie.Start
+at-start c = c .before .before .before .before .before .before .before
+
 cast-out : tie.Need-cast-out
 cast-out c = search needs
 
@@ -23,7 +27,7 @@ add-put-number-2 c = search needs
 
 put-number-requires-2 : tie.Need-put-number-requires-2
 put-number-requires-2 c κs =
-    let a = c .before .before .before .before .before .before .before .args in
+    let a = at-start c .args in
     omega (arith, length-set (a .out .now) (a .at) (a .e .kind))
 
 add-put-number-3 : tie.Need-add-put-number-3
@@ -31,12 +35,12 @@ add-put-number-3 c = search needs
 
 put-number-requires-3 : tie.Need-put-number-requires-3
 put-number-requires-3 c κs =
-    let a = c .before .before .before .before .before .before .before .before .before .before .before .args in
+    let a = at-start (c .before .before .before .before) .args in
     omega (arith, length-set (a .out .now) (a .at) (a .e .kind))
 
 same-length : tie.Need-same-length
 same-length c =
-    let a = c .before .before .before .before .before .before .before .before .before .before .before .before .before .before .args in
+    let a = at-start (c .before .before .before .before .before .before .before) .args in
     omega (arith, length-set (a .out .now) (a .at) (a .e .kind))
 
 returns : tie.Need-returns

@@ -5,12 +5,16 @@ use Rattle.write.proofs.Laying.{length-places, image-stored}
 use Rattle.write.proofs.put_image.Statement.{statement}
 use Rattle.write.proofs.put_image.Tie as tie
 
+-- the places that the answers go back to, each from a later one
+abbrev at-start : tie.After-put-number-arg → tie.Start
+at-start c = c .before .before .before .before
+
 put-number-requires : tie.Need-put-number-requires
-put-number-requires c κs = let s = c .before .before .before .before in omega (arith, length-places (s .args .list .now) (s .pre .1))
+put-number-requires c κs = let s = at-start c in omega (arith, length-places (s .args .list .now) (s .pre .1))
 
 put-blocks-requires : tie.Need-put-blocks-requires
 put-blocks-requires c κs =
-    let s = c .before .before .before .before .before .before .before .before in
+    let s = at-start (c .before .before .before .before) in
     ((s .pre .0, s .pre .1), omega (arith, length-places (s .args .list .now) (s .pre .1)))
 
 mul-at : tie.Need-mul-at
@@ -27,7 +31,7 @@ sub-put-number-2 c = search needs
 
 put-number-requires-2 : tie.Need-put-number-requires-2
 put-number-requires-2 c κs =
-    let s = c .before .before .before .before .before .before .before .before .before .before .before .before in
+    let s = at-start (c .before .before .before .before .before .before .before .before) in
     omega (arith, length-places (s .args .list .now) (s .pre .1))
 
 same-length : tie.Need-same-length
@@ -38,7 +42,7 @@ returns c =
     let third = c .before .before in
     let second = third .before .before .before .before in
     let first = second .before .before .before .before in
-    let s = first .before .before .before .before .before in
+    let s = at-start (first .before) in
     image-stored (s .args .list .now) (s .pre .1) (s .args .out .now) (s .pre .2) (first .put-number .ensures) (second .put-blocks .ensures)
     (third .put-number2 .ensures)
 

@@ -1,71 +1,53 @@
--- `write::write` meets its contract: each way out goes by the tests that lead to it. Assumes nothing.
-use mathlib.Core.Path.{refl}
+-- `write::write` meets its contract: by what the tests of the list say, and then by the room in the work area. Assumes nothing.
+use mathlib.Core.Path.{refl, sym, ap, _∙_}
 use native.Mathlib.Omega.{arith}
 use borrow.Author.Needs.{needs}
 use lib.ListN.{length}
 use Rattle.rules.specs.Limits.Laws.{most-counted}
+use Rattle.rules.specs.Refusals.{workTooShort, refusal}
 use Rattle.rules.specs.Listed.{Listed}
-use Rattle.write.proofs.Faults.{faultless-listed}
-use Rattle.write.proofs.Outcomes.{outcome-many, outcome-above, outcome-fall, outcome-work, promise-refused}
+use Rattle.write_list.proofs.Tests.{accepted-listed}
+use Rattle.write.proofs.Outcomes.{outcome-refused, outcome-work, promise-stopped}
 use Rattle.write.proofs.write.Statement.{statement}
 use Rattle.write.proofs.write.Tie as tie
 
--- what the three tests of the list leave
-listed : (c : tie.Else3) → Listed (c .before .before .before .before .before .before .before .before .before .args .list .now)
-listed c =
-    faultless-listed _ (omega (arith, c .before .before .before .before .before .most-steps .ensures))
-    (omega (arith, c .before .before .first-above .ensures)) (omega (arith, c .before .before .before .first-fall .ensures))
+-- the list stands the tests
+listed : (c : tie.After-enum-told) → Listed (c .before .before .before .before .before .before .args .list .now)
+listed c = accepted-listed (sym (c .before .before .test .ensures) ∙ c .enum-told .given .1)
 
-most-steps-requires : tie.Need-most-steps-requires
-most-steps-requires c κs = search needs
+test-requires : tie.Need-test-requires
+test-requires c κs = search needs
+
+enum-known-t : tie.Need-enum-known-t
+enum-known-t c = search needs
+
+enum-told : tie.Need-enum-told
+enum-told c = search needs
+
+work-for-requires : tie.Need-work-for-requires
+work-for-requires c κs = omega (arith, listed c .few)
 
 refuse-requires : tie.Need-refuse-requires
-refuse-requires c κs = search needs
+refuse-requires c κs = omega (arith, c .before .work-for .ensures, listed (c .before .before) .few, most-counted)
 
 returns : tie.Need-returns
 returns c =
-    let a = c .before .before .before .before .before .before .args in
-    promise-refused (c .refuse .ensures) refl
-    (outcome-many (a .list .now) (length (a .work .now)) (length (a .out .now)) (omega arith))
+    let w = c .before .before in
+    let a = w .before .before .before .before .before .before .before .args in
+    promise-stopped (c .refuse .ensures) (ap (refusal workTooShort) (w .work-for .ensures))
+    (outcome-work (a .list .now) (length (a .work .now)) (length (a .out .now)) (listed (w .before)) (omega (arith, w .work-for .ensures, c .before .if1 .taken)))
 
-first-fall-requires : tie.Need-first-fall-requires
-first-fall-requires c κs = search needs
-
-first-above-requires : tie.Need-first-above-requires
-first-above-requires c κs = search needs
-
-refuse-requires-2 : tie.Need-refuse-requires-2
-refuse-requires-2 c κs = omega (arith, most-counted)
+write-listed-requires : tie.Need-write-listed-requires
+write-listed-requires c κs =
+    let w = c .before .before .before in
+    (listed (w .before), omega (arith, w .work-for .ensures, c .before .before .if1 .left))
 
 returns-2 : tie.Need-returns-2
 returns-2 c =
-    let a = c .before .before .before .before .before .before .before .before .before .args in
-    promise-refused (c .refuse2 .ensures) (c .before .before .first-above .ensures)
-    (outcome-above (a .list .now) (length (a .work .now)) (length (a .out .now)) (omega arith) (omega arith))
-
-refuse-requires-3 : tie.Need-refuse-requires-3
-refuse-requires-3 c κs = omega (arith, most-counted)
-
-returns-3 : tie.Need-returns-3
-returns-3 c =
-    let a = c .before .before .before .before .before .before .before .before .before .before .args in
-    promise-refused (c .refuse3 .ensures) (c .before .before .before .before .first-fall .ensures)
-    (outcome-fall (a .list .now) (length (a .work .now)) (length (a .out .now)) (omega arith) (omega arith) (omega arith))
-
-work-for-requires : tie.Need-work-for-requires
-work-for-requires c κs = search needs
-
-refuse-requires-4 : tie.Need-refuse-requires-4
-refuse-requires-4 c κs = omega (arith, most-counted)
-
-returns-4 : tie.Need-returns-4
-returns-4 c =
-    let a = c .before .before .before .before .before .before .before .before .before .before .before .before .args in
-    promise-refused (c .refuse4 .ensures) (c .before .before .work-for .ensures)
-    (outcome-work (a .list .now) (length (a .work .now)) (length (a .out .now)) (listed (c .before .before .before)) (omega arith))
-
-write-listed-requires : tie.Need-write-listed-requires
-write-listed-requires c κs = (listed (c .before .before .before .before), omega arith)
+    let k = c .before .before .before in
+    let a = k .before .before .before .before .args in
+    promise-stopped refl refl
+    (outcome-refused (a .list .now) (length (a .work .now)) (length (a .out .now)) (sym (k .test .ensures) ∙ c .before .t .given .1))
 
 same-length : tie.Need-same-length
 same-length c = search needs
@@ -73,26 +55,21 @@ same-length c = search needs
 same-length-2 : tie.Need-same-length-2
 same-length-2 c = search needs
 
-returns-5 : tie.Need-returns-5
-returns-5 c = search needs
+returns-3 : tie.Need-returns-3
+returns-3 c = search needs
 
 pub write-spec : {M : Type 1} → statement M
 write-spec =
     tie.close
     (tie.spec
-    most-steps-requires
+    test-requires
+    enum-known-t
+    enum-told
+    work-for-requires
     refuse-requires
     returns
-    first-fall-requires
-    first-above-requires
-    refuse-requires-2
-    returns-2
-    refuse-requires-3
-    returns-3
-    work-for-requires
-    refuse-requires-4
-    returns-4
     write-listed-requires
+    returns-2
     same-length
     same-length-2
-    returns-5)
+    returns-3)

@@ -12,6 +12,13 @@ use Rattle.write.proofs.Outcomes.{length-planned, planned-fits, planned
 use Rattle.write.proofs.write_listed.Statement.{statement}
 use Rattle.write.proofs.write_listed.Tie as tie
 
+-- the places that the answers go back to, each from a later one
+abbrev at-start : tie.After-plan → tie.Start
+at-start c = c .before .before .before .before .before
+
+abbrev at-plan : tie.After-put-image-arg2 → tie.After-plan
+at-plan c = c .before .before .before .before .before .before
+
 plan-requires : tie.Need-plan-requires
 plan-requires c κs = search needs
 
@@ -21,29 +28,29 @@ mul-bytes c = search needs
 add-bytes : tie.Need-add-bytes
 add-bytes c =
     let p = c .before .before .before in
-    omega (arith, planned-fits (p .plan .ensures) (p .before .before .before .before .before .pre .0))
+    omega (arith, planned-fits (p .plan .ensures) (at-start p .pre .0))
 
 put-image-requires : tie.Need-put-image-requires
 put-image-requires c κs =
-    let p = c .before .before .before .before .before .before in
-    let s = p .before .before .before .before .before in
+    let p = at-plan c in
+    let s = at-start p in
     let e = p .plan .ensures in
     (planned-marks e (s .pre .0) (s .pre .1), e .blocks, omega (arith, length-planned e))
 
 cast-t18 : tie.Need-cast-t18
 cast-t18 c =
-    let p = c .before .before .before .before .before .before .before .before .before in
-    omega (arith, p .before .before .before .before .before .pre .0 .few, most-counted)
+    let p = at-plan (c .before .before .before) in
+    omega (arith, at-start p .pre .0 .few, most-counted)
 
 cast-t19 : tie.Need-cast-t19
 cast-t19 c =
-    let p = c .before .before .before .before .before .before .before .before .before in
-    omega (arith, planned-fits (p .plan .ensures) (p .before .before .before .before .before .pre .0))
+    let p = at-plan (c .before .before .before) in
+    omega (arith, planned-fits (p .plan .ensures) (at-start p .pre .0))
 
 refuse-requires : tie.Need-refuse-requires
 refuse-requires c κs =
     let p = c .before .before .before .before in
-    omega (arith, planned-fits (p .plan .ensures) (p .before .before .before .before .before .pre .0))
+    omega (arith, planned-fits (p .plan .ensures) (at-start p .pre .0))
 
 work-for-requires : tie.Need-work-for-requires
 work-for-requires c κs = search needs
@@ -62,7 +69,7 @@ returns : tie.Need-returns
 returns c =
     let j = c .before .before .before .before .before in
     let p = j .before .before .before .before in
-    let s = p .before .before .before .before .before in
+    let s = at-start p in
     let e = p .plan .ensures in
     let k = c .before .before .before .work-for .ensures in
     let z = c .before .before .clear .ensures in

@@ -5,7 +5,8 @@ use borrow.Author.Needs.{needs}
 use Rattle.rules.specs.Limits.Laws.{largest-coded}
 use Rattle.image_walk.specs.declared.Rest.{Rest}
 use Rattle.image_walk.specs.declared.Move.the-variants.{Out}
-use Rattle.image_walk.specs.Turns.{Left, Turned, Moves}
+use Rattle.image_walk.specs.Turns.{Left, Turned}
+use Rattle.image_walk.specs.Inside.Moves.{Moves}
 use Rattle.image_walk.proofs.Passing.{pass-to, pass-out, pass-turned}
 use Rattle.image_walk.proofs.Walk.next.Statement.{statement}
 use Rattle.image_walk.proofs.Walk.next.Tie as tie

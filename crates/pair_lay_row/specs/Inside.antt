@@ -1,0 +1,2 @@
+-- What only the functions of this crate promise each other.
+pub mod Rows
