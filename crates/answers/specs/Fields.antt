@@ -31,16 +31,8 @@ rankedOf p = record { refusal = refusalOf p; step = value p 0 }
 abbrev pub firstOf : Paper → First
 firstOf p = record { refusal = refusalOf p; found = value p 0; step = value p 1; rank = value p 2 }
 
--- the answer to a bound where no step is found
-abbrev pub unfound : Refusal → First
-unfound r = record { refusal = r; found = 0; step = 0; rank = 0 }
-
 abbrev pub movedOf : Paper → Moved
 movedOf p = record { refusal = refusalOf p; found = value p 0; step = value p 1; cursor = record { rank = value p 2 } }
-
--- the answer of a move where no step is given
-abbrev pub unmoved : Refusal → ℕ → Moved
-unmoved r k = record { refusal = r; found = 0; step = 0; cursor = record { rank = k } }
 
 abbrev pub clockOf : Paper → Clock
 clockOf p = record { refusal = refusalOf p; day = value p 0; hour = value p 1; minute = value p 2 }

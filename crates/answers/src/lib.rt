@@ -10,13 +10,14 @@ ghost use Rattle.write.specs.Outcome as write;
 ghost use Rattle.ask.specs.Rank as rank;
 ghost use Rattle.ask.specs.First as first;
 ghost use Rattle.ask.specs.Cursor as cursor;
-ghost use Rattle.answers.specs.Fields.{refusalOf, countedOf, rankedOf, firstOf, unfound, movedOf, unmoved, clockOf};
+ghost use Rattle.answers.specs.Fields.{refusalOf, countedOf, rankedOf, firstOf, movedOf, clockOf};
+ghost use Rattle.answers.specs.Inside.Steps.{unfound, unmoved};
 use ask::Next;
 use ask::Placed;
 use clock::Clocked;
 use read::Checked;
 
-// Whether an answer gives a step.
+// Free: the interface has it so. Whether an answer gives a step.
 const FOUND: u32 = 1;
 
 const NOTHING: u32 = 0;

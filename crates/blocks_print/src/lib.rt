@@ -9,11 +9,8 @@ use blocks_lines::Line;
 use libc::STDOUT_FILENO;
 use rules::Refusal;
 
-// The longest input that is read, in bytes.
+// Document 01: the longest input that is read, in bytes.
 const LONGEST: usize = 65536;
-
-// Kind 0 is codes.
-const CODES: usize = 0;
 
 // Prints a number with a space before it.
 pub fn another(x: usize) {
@@ -24,7 +21,7 @@ pub fn another(x: usize) {
 // Prints the line of a block.
 fn print_line(l: Line) {
     io::print_decimal(STDOUT_FILENO, l.number as u64);
-    if l.kind == CODES {
+    if l.kind == rules::CODES {
         io::write_all(STDOUT_FILENO, b" vbyte");
     } else {
         io::write_all(STDOUT_FILENO, b" bits");

@@ -8,7 +8,7 @@ use native.Mathlib.Omega.{arith}
 use Rattle.lists.proofs.Choice.{by-lt, order}
 use Rattle.cut.specs.Cut.{Kind, codes, number, block, bytes}
 use Rattle.cut.specs.BestCut.{bestCut, least}
-use Rattle.cut.specs.Values.{Reaches, Minimum, Value, First}
+use Rattle.cut.specs.Inside.Values.{Reaches, Minimum, Value, First}
 use Rattle.cut.proofs.Blocks.{number-le, kind-eq}
 use Rattle.cut.proofs.Leads.{Leads, by-bytes, leads-steps, leads-kind}
 use Rattle.cut.proofs.Cuts.{cuts-le, cuts-some}

@@ -1,3 +1,3 @@
 pub mod Cut
 pub mod BestCut
-pub mod Values
+pub mod Inside

@@ -16,7 +16,7 @@ use Rattle.image_walk.specs.Walk.{ahead, Stands}
 use Rattle.image_walk.proofs.Shapes.{ahead-step, ahead-none}
 use Rattle.pair_operation.specs.declared.Operation.{Operation}
 use Rattle.pair_operation.specs.Result.{resultOf}
-use Rattle.pair_operation.specs.Merge.{headOf}
+use Rattle.pair_operation.specs.Inside.Merge.{headOf}
 use Rattle.pair_operation.proofs.Result.{length-result}
 use Rattle.pair_operation.proofs.Merging.{Below, merge-end}
 use Rattle.pair_dense.specs.declared.Walks.{Walks}

@@ -21,7 +21,7 @@ use Rattle.pair_lay.specs.Lays.{LaysWindow}
 use Rattle.image_walk.proofs.Shapes.{ahead-none}
 use Rattle.pair_operation.specs.declared.Operation.{Operation}
 use Rattle.pair_operation.specs.Result.{keeps, sieve, resultOf}
-use Rattle.pair_operation.specs.Merge.{headOf}
+use Rattle.pair_operation.specs.Inside.Merge.{headOf}
 use Rattle.pair_dense.specs.declared.Walks.{Walks}
 use Rattle.pair_dense.specs.Inside.Words.{stepsIn}
 use Rattle.pair_dense.specs.Inside.Walks.{Along, Together, resultAhead, Passes}

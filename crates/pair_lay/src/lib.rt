@@ -27,7 +27,7 @@ const FLAG: usize = 128;
 // Codes of one byte that are read at once. Free: measured; `Four` and `lay_fours` are written for this number.
 const AT_ONCE: usize = 4;
 
-// The number whose so many bytes are 1. It follows from the two above.
+// Free: it follows from the two above. The number whose so many bytes are 1.
 const ONES: usize = 16843009;
 
 // What four bytes say of four steps, where each byte is a code by itself: how far it is from each step to the next. `flags` is 0 where that is

@@ -13,7 +13,7 @@ use Rattle.lists.proofs.Rising.{rising-beyond, rising-weaken}
 use Rattle.lists.proofs.Members.{has-none, has-here, has-past, has-below}
 use Rattle.pair_operation.specs.declared.Operation.{Operation}
 use Rattle.pair_operation.specs.Result.{keeps, resultOf}
-use Rattle.pair_operation.specs.Merge.{headOf, pastOf, kept}
+use Rattle.pair_operation.specs.Inside.Merge.{headOf, pastOf, kept}
 use Rattle.pair_operation.proofs.Turns.{result-turn, result-none}
 
 -- steps from `o` on, in order, below `t`

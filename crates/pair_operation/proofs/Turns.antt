@@ -12,7 +12,7 @@ use Rattle.lists.proofs.Rising.{rising-weaken}
 use Rattle.lists.proofs.Members.{has-here, has-past, has-below}
 use Rattle.pair_operation.specs.declared.Operation.{Operation}
 use Rattle.pair_operation.specs.Result.{keeps, sieve, resultOf}
-use Rattle.pair_operation.specs.Merge.{kept}
+use Rattle.pair_operation.specs.Inside.Merge.{kept}
 use Rattle.pair_operation.proofs.Result.{keeps-none, result-one, result-is, rising-result, has-result}
 
 -- a rising list that has nothing below `o` begins there at the earliest

@@ -1,2 +1,2 @@
 pub mod Result
-pub mod Merge
+pub mod Inside

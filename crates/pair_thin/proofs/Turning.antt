@@ -19,7 +19,7 @@ use Rattle.lists.proofs.Parts.{getD-first}
 use Rattle.rules.specs.Limits.{noStep}
 use Rattle.pair_operation.specs.declared.Operation.{Operation}
 use Rattle.pair_operation.specs.Result.{keeps, resultOf}
-use Rattle.pair_operation.specs.Merge.{headOf, pastOf, kept}
+use Rattle.pair_operation.specs.Inside.Merge.{headOf, pastOf, kept}
 use Rattle.pair_operation.proofs.Merging.{Below, past-below, merge-turn}
 use Rattle.pair_thin.specs.Inside.Shown.{Shows, Shown, Went, Merges}
 

@@ -12,7 +12,7 @@ use Rattle.rules.specs.Listed.{Listed}
 use Rattle.row.specs.Row.{byteBits}
 use Rattle.cut.specs.Cut.{Kind, codes, row, block}
 use Rattle.cut.specs.BestCut.{least}
-use Rattle.cut.specs.Values.{Reaches, Minimum, Value}
+use Rattle.cut.specs.Inside.Values.{Reaches, Minimum, Value}
 use Rattle.cut.proofs.Values.{value-least, value-step}
 use Rattle.plan.specs.Cost.{cost}
 use Rattle.plan.specs.Inside.Ahead.{bytesAt, codesAt, reachAt, rowAt}
