@@ -37,9 +37,8 @@ fn blocks<'a>(image: &'a [u8], payload: &'a [u8], m: usize) -> Checked
         b = image::after(e);
         i += 1;
     }
-    Checked::Accepted {
-        steps: b.upto as u32,
-    }
+    let steps = b.upto as u32;
+    Checked::Accepted { steps }
 }
 
 // Checks an image: the number of its steps, or its first refusal.

@@ -91,8 +91,8 @@ loop-again c =
     (checking-next (l .loop .inv) (e .entry .result) (e .entry .ensures .0) (e .before .loop-test .taken) (n .number .result)
     (n .number .ensures) (omega arith))
 
-cast-t17 : tie.Need-cast-t17 Inv-loop μ-loop
-cast-t17 c = search needs
+cast-steps : tie.Need-cast-steps Inv-loop μ-loop
+cast-steps c = search needs
 
 returns-2 : tie.Need-returns-2 Inv-loop μ-loop
 returns-2 c = checking-end (c .before .before .loop .inv) (c .before .loop-test .left)
@@ -117,5 +117,5 @@ blocks-spec =
     add-i
     loop-less
     loop-again
-    cast-t17
+    cast-steps
     returns-2)
