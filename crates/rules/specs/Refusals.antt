@@ -82,6 +82,6 @@ noSuchCursor = 19
 abbrev pub refusal : ℕ → ℕ → Refusal
 refusal n p = record { number = n; side = 0; place = p }
 
--- the same refusal, about the first or second image of a pair
+-- a refusal of an image, as one about the first or the second image of a pair
 abbrev pub onSide : ℕ → Refusal → Refusal
 onSide s r = record { number = r .number; side = s; place = r .place }
