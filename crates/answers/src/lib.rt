@@ -1,6 +1,8 @@
 // The answers as C sees them: each is a struct of numbers. The number of its refusal is 0 where it accepts; where it refuses, every other
 // field is 0.
 
+#![tactic(auto)]
+
 ghost use Rattle.std.specs.Prelude.{◌≡◌, []};
 ghost use Rattle.rules.specs.Paper.{accepting, refusing};
 ghost use Rattle.clock.specs.Clock as clock;
@@ -23,7 +25,7 @@ const NOTHING: u32 = 0;
 
 // A refusal: number, side and place, all 0 where the answer accepts.
 #[repr(C)]
-#[derive(Drop)]
+#[derive(Clone, Copy)]
 pub struct Refusal {
     pub number: u32,
     pub side: u32,
@@ -32,7 +34,7 @@ pub struct Refusal {
 
 // How many steps, and how many bytes their image has; a check and a reading back write none, so their bytes are 0.
 #[repr(C)]
-#[derive(Drop)]
+#[derive(Clone, Copy)]
 pub struct Counted {
     pub refusal: Refusal,
     pub steps: u32,
@@ -41,7 +43,7 @@ pub struct Counted {
 
 // The step at a rank.
 #[repr(C)]
-#[derive(Drop)]
+#[derive(Clone, Copy)]
 pub struct Ranked {
     pub refusal: Refusal,
     pub step: u32,
@@ -49,7 +51,7 @@ pub struct Ranked {
 
 // The first step at or after a bound with its rank, or nothing: then found is 0.
 #[repr(C)]
-#[derive(Drop)]
+#[derive(Clone, Copy)]
 pub struct First {
     pub refusal: Refusal,
     pub found: u32,
@@ -59,14 +61,14 @@ pub struct First {
 
 // A place in an image's list of steps.
 #[repr(C)]
-#[derive(Drop)]
+#[derive(Clone, Copy)]
 pub struct Cursor {
     pub rank: u32,
 }
 
 // The moved cursor, and the step that it gave, or none: then found is 0.
 #[repr(C)]
-#[derive(Drop)]
+#[derive(Clone, Copy)]
 pub struct Moved {
     pub refusal: Refusal,
     pub found: u32,
@@ -76,7 +78,7 @@ pub struct Moved {
 
 // A time of the year.
 #[repr(C)]
-#[derive(Drop)]
+#[derive(Clone, Copy)]
 pub struct Clock {
     pub refusal: Refusal,
     pub day: u32,

@@ -3,6 +3,8 @@
 // Each question checks the whole image first. Then it goes along the directory to the one block that holds the answer, and reads only that
 // block's part of the payload. A cursor is a rank and nothing else, so one rank of one image has one cursor.
 
+#![tactic(auto)]
+
 ghost use Rattle.std.specs.Prelude.{◌≡◌, ◌^◌, ◌<◌, length, get_or};
 ghost use Rattle.lists.specs.Below.{below};
 ghost use Rattle.image.specs.Taken.{steps_of, Taken};
@@ -15,21 +17,21 @@ use read::Checked;
 use rules::Refusal;
 
 // The answer to a rank.
-#[derive(Drop)]
+#[derive(Clone, Copy)]
 pub enum Ranked {
     Step(u32),
     Refused(Refusal),
 }
 
 // A step with its rank.
-#[derive(Drop)]
+#[derive(Clone, Copy)]
 pub struct Hit {
     pub step: u32,
     pub rank: u32,
 }
 
 // The answer to a bound.
-#[derive(Drop)]
+#[derive(Clone, Copy)]
 pub enum First {
     Found(Hit),
     Nothing,
@@ -37,20 +39,20 @@ pub enum First {
 }
 
 // A place in an image's list of steps.
-#[derive(Drop)]
+#[derive(Clone, Copy)]
 pub struct Cursor {
     pub rank: u32,
 }
 
 // A step that a cursor gave, and the cursor after it.
-#[derive(Drop)]
+#[derive(Clone, Copy)]
 pub struct Move {
     pub step: u32,
     pub cursor: Cursor,
 }
 
 // The answer of `next`: a step with the moved cursor, or the cursor that stays at the end.
-#[derive(Drop)]
+#[derive(Clone, Copy)]
 pub enum Next {
     Step(Move),
     End(Cursor),
@@ -58,7 +60,7 @@ pub enum Next {
 }
 
 // The answer of `start` and of `skip_to`: where the cursor stands now.
-#[derive(Drop)]
+#[derive(Clone, Copy)]
 pub enum Placed {
     At(Cursor),
     Refused(Refusal),

@@ -1,5 +1,7 @@
 // The block lister: reads an image from standard input.
 
+#![tactic(auto)]
+
 use libc::STDIN_FILENO;
 
 // Lists the image on standard input.

@@ -1,5 +1,7 @@
 // Runs the block lister on each file that an argument names: its cases in one crate.
 
+#![tactic(auto)]
+
 // Lists the image of the file that an argument names.
 fn list_file(i: usize) {
     let mut path = io::buffer();

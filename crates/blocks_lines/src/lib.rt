@@ -1,5 +1,7 @@
 // What the block lister tells of an image: how much it holds, and a line for each block.
 
+#![tactic(auto)]
+
 ghost use Rattle.std.specs.Prelude.{◌≡◌, ◌<◌};
 ghost use Rattle.rules.specs.Numbers.{number_at};
 ghost use Rattle.image.specs.Verdict.{verdict};
@@ -10,7 +12,7 @@ use read::Checked;
 use rules::Refusal;
 
 // The first line: blocks, steps, and bytes of the image, or its refusal.
-#[derive(Drop)]
+#[derive(Clone, Copy)]
 pub enum Contents {
     Holds {
         blocks: usize,
@@ -21,7 +23,7 @@ pub enum Contents {
 }
 
 // The line of a block: its number, kind, first step, last step, steps and payload bytes.
-#[derive(Drop)]
+#[derive(Clone, Copy)]
 pub struct Line {
     pub number: usize,
     pub kind: usize,

@@ -1,5 +1,7 @@
 // The block lister: prints what `blocks_lines` says of an image, in the words of document 01.
 
+#![tactic(auto)]
+
 ghost use Rattle.std.specs.Prelude.{◌≡◌};
 ghost use Rattle.rules.specs.Numbers.{number_at};
 ghost use Rattle.image.specs.Verdict.{verdict};

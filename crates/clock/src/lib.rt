@@ -1,5 +1,7 @@
 // The clock of a step: ten steps an hour, 24 hours a day, 365 days a year.
 
+#![tactic(auto)]
+
 ghost use Rattle.std.specs.Prelude.{◌≡◌};
 ghost use Rattle.clock.specs.Clock.{paper_of, promised};
 
@@ -18,7 +20,7 @@ const STEP_MINUTES: u32 = 6;
 const YEAR_DAYS: u32 = 365;
 
 // A time of the year: the day from 1, hour and minute from 0.
-#[derive(Drop)]
+#[derive(Clone, Copy)]
 pub struct Time {
     pub day: u32,
     pub hour: u32,
@@ -26,7 +28,7 @@ pub struct Time {
 }
 
 // What the clock answers for a step.
-#[derive(Drop)]
+#[derive(Clone, Copy)]
 pub enum Clocked {
     At(Time),
     Refused(Refusal),

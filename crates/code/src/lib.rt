@@ -1,6 +1,8 @@
 // The variable-byte code of document 01: groups of seven bits, the highest first, each byte but the last with its high bit set, and the
 // shortest form only. Its length, writing it, and reading it.
 
+#![tactic(auto)]
+
 ghost use Rattle.std.specs.Prelude.{◌≡◌, ◌+◌, ◌-◌, ◌*◌, ◌≤◌, ◌<◌, length};
 ghost use Rattle.lists.specs.Stores.{Puts};
 ghost use Rattle.code.specs.declared.Reading.TheVariants.{Code};
@@ -28,7 +30,7 @@ const FLAG: u32 = 128;
 pub const HIGH: u8 = 128;
 
 // Why no code stands at a place: its first byte is 80 hex, its fourth has the high bit, or the bytes end inside it.
-#[derive(Drop)]
+#[derive(Clone, Copy)]
 pub enum Flaw {
     Padded,
     Long,
@@ -36,7 +38,7 @@ pub enum Flaw {
 }
 
 // What reading at a place finds: a value with the place after its code, or why there is none.
-#[derive(Drop)]
+#[derive(Clone, Copy)]
 pub enum Reading {
     Code { value: u32, next: usize },
     Bad(Flaw),
@@ -44,7 +46,7 @@ pub enum Reading {
 
 // What two bytes say of the code that begins with the first: its value, 1 where the second belongs to it, and 1 where it goes on after that, so
 // that the value is not all of it.
-#[derive(Drop)]
+#[derive(Clone, Copy)]
 pub struct Front {
     pub value: usize,
     pub extra: usize,

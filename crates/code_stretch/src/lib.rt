@@ -1,6 +1,8 @@
 // Many codes passed at once, without looking where each begins: what a byte adds to the value of its code depends on the byte and the next three
 // alone, so the bytes of a stretch are added up as they come.
 
+#![tactic(auto)]
+
 ghost use Rattle.std.specs.Prelude.{◌≡◌, ◌+◌, ◌-◌, ◌*◌, ◌≤◌, ◌<◌, length, get_or};
 ghost use Rattle.code.specs.Code.{one_group, two_groups, three_groups, flag, code_values};
 ghost use Rattle.code_stretch.specs.Inside.Bytewise.{stretch, Shares, Added};
@@ -27,7 +29,7 @@ const FOURTH: usize = 2080768;
 
 // What a byte and the next three say of it: the shares of what it adds to its code's value, whether a code ends with it, whether
 // something is wrong.
-#[derive(Drop)]
+#[derive(Clone, Copy)]
 struct Share {
     low: u8,
     second: u8,
@@ -38,7 +40,7 @@ struct Share {
 }
 
 // What the bytes of a part add up to.
-#[derive(Drop)]
+#[derive(Clone, Copy)]
 struct Sums {
     value: usize,
     ends: usize,
@@ -46,7 +48,7 @@ struct Sums {
 }
 
 // Codes that are passed at once: how many, the sum of their values, and the place after them.
-#[derive(Drop)]
+#[derive(Clone, Copy)]
 pub struct Stretch {
     pub count: usize,
     pub value: usize,

@@ -1,6 +1,8 @@
 // A block of codes: for each step the code of (step − step before it − 1). Checking it, reading its steps, the step at an index, and where a
 // bound falls. Each goes by the promise of the byte code alone: code by code, where many codes cannot be passed at once.
 
+#![tactic(auto)]
+
 ghost use Rattle.std.specs.Prelude.{◌≡◌, ◌+◌, ◌*◌, ◌^◌, ◌≤◌, ◌<◌, length, get_or};
 ghost use Rattle.lists.specs.Below.{below};
 ghost use Rattle.lists.specs.Stores.{Puts};
@@ -11,21 +13,21 @@ ghost use Rattle.codes.specs.Inside.Turn.{Turn};
 use code::{Flaw, Reading};
 
 // What checking a block finds: how many steps and one past the last of them, or why and where the first code that fails.
-#[derive(Drop)]
+#[derive(Clone, Copy)]
 pub enum Tally {
     Steps { count: usize, next: usize },
     Wrong { flaw: Flaw, at: usize },
 }
 
 // A step that a code stands for, and the place after the code.
-#[derive(Drop)]
+#[derive(Clone, Copy)]
 struct Coded {
     step: usize,
     after: usize,
 }
 
 // A step of a block with its index there.
-#[derive(Drop)]
+#[derive(Clone, Copy)]
 pub struct Indexed {
     pub step: usize,
     pub index: usize,

@@ -1,6 +1,8 @@
 // The codes of a rising list, put into bytes: for each step the code of (step − step before it − 1). Where the codes of a group of steps are
 // single bytes they are put without looking at each, else one by one.
 
+#![tactic(auto)]
+
 ghost use Rattle.std.specs.Prelude.{◌+◌, ◌≤◌, ◌<◌, length, drop};
 ghost use Rattle.lists.specs.Rising.{Rising, beyond};
 ghost use Rattle.lists.specs.Parts.{part};
@@ -17,7 +19,7 @@ const GROUP: usize = 16;
 const ROUND: usize = 64;
 
 // The rank of the first step whose code was not put, and the place after the codes.
-#[derive(Drop)]
+#[derive(Clone, Copy)]
 struct Written {
     upto: usize,
     after: usize,

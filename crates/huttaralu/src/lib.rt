@@ -1,6 +1,8 @@
 // The library as C sees it: each answer is a struct of numbers. Each function takes every input, and its promise is one equation: the
 // answer, with each lent buffer afterwards.
 
+#![tactic(auto)]
+
 ghost use Rattle.std.specs.Prelude.{◌≡◌};
 ghost use Rattle.pair_operation.specs.declared.Operation.TheVariants.{Both, Either, Without};
 ghost use Rattle.huttaralu.specs.Says as says;

@@ -1,6 +1,8 @@
 // What an image is: a directory of entries, and a payload in which each block has its own part. The bytes of a list under a cut, the verdict
 // on any bytes, and the theorem that the two agree stand in `specs/` and `proofs/`; here are the entries.
 
+#![tactic(auto)]
+
 ghost use Rattle.std.specs.Prelude.{◌≡◌, ◌+◌, ◌^◌, ◌≤◌, ◌<◌, length};
 ghost use Rattle.rules.specs.Sizes.{entry_size};
 ghost use Rattle.image.specs.Entry.{entry_at, start, after_entry, Narrow};
@@ -8,7 +10,7 @@ ghost use Rattle.image.specs.Entry.{entry_at, start, after_entry, Narrow};
 use rules::Refusal;
 
 // One record of the directory.
-#[derive(Drop)]
+#[derive(Clone, Copy)]
 pub struct Entry {
     pub kind: usize,
     pub last: usize,
@@ -17,7 +19,7 @@ pub struct Entry {
 }
 
 // What stands before a block: one past the last step, the number of steps, the end in the payload.
-#[derive(Drop)]
+#[derive(Clone, Copy)]
 pub struct Before {
     pub next: usize,
     pub upto: usize,
@@ -25,14 +27,14 @@ pub struct Before {
 }
 
 // What checking the directory finds.
-#[derive(Drop)]
+#[derive(Clone, Copy)]
 pub enum Fault {
     Fine,
     At(Refusal),
 }
 
 // What the counts and the directory of an image say: how many blocks there are, or the first refusal, 1 to 6.
-#[derive(Drop)]
+#[derive(Clone, Copy)]
 pub enum Opening {
     Opened { blocks: usize },
     Refused(Refusal),

@@ -1,6 +1,8 @@
 // One block in its own part of the payload: the number of its refusal, 7 to 10; and where it has none, its steps put into a buffer, its step at an
 // index, and its first step at or after a bound. Codes are read code by code; a row by whole words and bytes, and then the k-th one of one byte.
 
+#![tactic(auto)]
+
 ghost use Rattle.std.specs.Prelude.{◌≡◌, ◌+◌, ◌-◌, ◌^◌, ◌≤◌, ◌<◌, length, get_or};
 ghost use Rattle.lists.specs.Below.{below};
 ghost use Rattle.lists.specs.Stores.{Puts};
@@ -12,7 +14,7 @@ use codes::Tally;
 use image::{Before, Entry};
 
 // A step of a block with its index there.
-#[derive(Drop)]
+#[derive(Clone, Copy)]
 pub struct Indexed {
     pub step: usize,
     pub index: usize,

@@ -1,6 +1,8 @@
 // The directory of an image: the two counts, the entries in turn with refusals 1 to 6, and the search along the entries for the first that answers
 // a question. Of the payload it hands out parts and looks into none.
 
+#![tactic(auto)]
+
 ghost use Rattle.std.specs.Prelude.{◌≡◌, ◌+◌, ◌^◌, ◌≤◌, ◌<◌, length};
 ghost use Rattle.rules.specs.Sizes.{entry_size};
 ghost use Rattle.rules.specs.Numbers.{number_at};
@@ -15,14 +17,14 @@ use image::{Before, Entry, Fault, Opening};
 use rules::Refusal;
 
 // What is asked of the directory: where the step of a rank is, or where the first step at or after a bound is.
-#[derive(Drop)]
+#[derive(Clone, Copy)]
 pub enum Question {
     Rank(usize),
     Bound(usize),
 }
 
 // Where the directory says that an answer is: a block with what stands before it, or none.
-#[derive(Drop)]
+#[derive(Clone, Copy)]
 pub enum Spot {
     Block { before: Before, entry: Entry },
     Nowhere,

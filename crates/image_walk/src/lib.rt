@@ -5,6 +5,8 @@
 // one byte, is what most moves are: `next` is small, so that it is made part of its caller's loop and the walk stays in registers there. All
 // other moves go by `turned`, which is handed what is left as a value of its own.
 
+#![tactic(auto)]
+
 ghost use Rattle.std.specs.Prelude.{◌≡◌, ◌^◌, ◌<◌};
 ghost use Rattle.rules.specs.Limits.{no_step};
 ghost use Rattle.image.specs.Taken.{steps_of, Taken, payload_in};
@@ -16,7 +18,7 @@ use code::Reading;
 use row::{WORD_BITS, WORD_BYTES};
 
 // Where a walk stands.
-#[derive(Drop)]
+#[derive(Clone, Copy)]
 pub struct Walk {
     // The step, or one past the largest where none is left.
     pub step: usize,
@@ -32,7 +34,7 @@ pub struct Walk {
 
 // What a walk has left when its word, or its code, is passed: the least step that may come in a code or in another block, the step that the
 // row's next bit stands for, 0 where the open block has codes, and the places of the walk.
-#[derive(Drop)]
+#[derive(Clone, Copy)]
 pub struct Rest {
     pub next: usize,
     pub from: usize,
@@ -43,7 +45,7 @@ pub struct Rest {
 }
 
 // A move to another walk, or out of what is loaded.
-#[derive(Drop)]
+#[derive(Clone, Copy)]
 enum Move {
     To(Walk),
     Out,

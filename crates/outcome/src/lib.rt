@@ -1,6 +1,8 @@
 // What becomes of a list of steps that an operation made: the tests of the room that is lent for it, and the writing of its steps once they
 // stand in the front of the step buffer. Between the two the operation stores them.
 
+#![tactic(auto)]
+
 ghost use Rattle.std.specs.Prelude.{◌≡◌, length, take};
 ghost use Rattle.rules.specs.Listed.{Listed};
 ghost use Rattle.outcome.specs.Result.{room_of, of_result, Roomy, Leaves};
@@ -9,7 +11,7 @@ use rules::Refusal;
 use write::Counted;
 
 // Whether there is room for a result: in the step buffer and in the work area; or the refusal that comes first.
-#[derive(Drop)]
+#[derive(Clone, Copy)]
 pub enum Room {
     Enough,
     Refused(Refusal),

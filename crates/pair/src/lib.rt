@@ -3,6 +3,8 @@
 // before anything is stored, and a refusal changes nothing; then its steps are stored, and written as any list is. A merge that counts keeps a
 // short result, so that storing it is a copy.
 
+#![tactic(auto)]
+
 ghost use Rattle.std.specs.Prelude.{◌≡◌, ◌++◌, ◌+◌, ◌≤◌, ◌<◌, length, drop};
 ghost use Rattle.rules.specs.Refusals.{on_side};
 ghost use Rattle.image.specs.Taken.{steps_of, Taken};

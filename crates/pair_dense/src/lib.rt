@@ -1,6 +1,8 @@
 // The result of an operation on two accepted images, counted and stored window by window: the steps of both are laid into words whose bits stand
 // for steps, and the words are joined. Neither list is copied.
 
+#![tactic(auto)]
+
 ghost use Rattle.std.specs.Prelude.{◌≡◌, [], ◌++◌, ◌+◌, ◌*◌, ◌^◌, ◌≤◌, ◌<◌, length, drop};
 ghost use Rattle.lists.specs.Rising.{beyond};
 ghost use Rattle.lists.specs.Stores.{Puts, Brief};
@@ -21,7 +23,7 @@ use row::WORD_BITS;
 const WORDS: usize = 64;
 
 // The walks over the two images, and the lower of their steps, from which the next window goes.
-#[derive(Drop)]
+#[derive(Clone, Copy)]
 struct Walks {
     first: Walk,
     second: Walk,

@@ -2,6 +2,8 @@
 // less than moving a walk for each. Most steps of a thin list stand in codes of one byte or two: these are read two at a time, in a loop of
 // their own that tests only for what is rare. All else goes step by step, as any walk goes.
 
+#![tactic(auto)]
+
 ghost use Rattle.std.specs.Prelude.{◌≡◌, List, ◌∷◌, ℕ, ◌≤◌, ◌<◌, length, get_or};
 ghost use Rattle.lists.specs.Stores.{Brief};
 ghost use Rattle.rules.specs.Limits.{no_step};
@@ -16,7 +18,7 @@ use image_walk::Walk;
 // The next steps of an image, in a buffer: the numbers of the buffer from `at` to before `end`, and the walk at the step after them. Where no
 // step is left, the numbers are one past the largest step, which is above every step, so that who merges need not ask for the end at every
 // step.
-#[derive(Drop)]
+#[derive(Clone, Copy)]
 pub struct Feed {
     pub walk: Walk,
     pub at: usize,

@@ -1,6 +1,8 @@
 // Laying the steps ahead of a walk into a window, in larger pieces than steps: what a row has in words, and runs of short codes in loops of
 // their own, four codes a turn while there are four.
 
+#![tactic(auto)]
+
 ghost use Rattle.std.specs.Prelude.{◌≡◌, [], ◌+◌, ◌-◌, ◌/◌, ◌%◌, ◌≤◌, ◌<◌, length};
 ghost use Rattle.lists.specs.Stores.{Brief};
 ghost use Rattle.rules.specs.Limits.{no_step};
@@ -30,7 +32,7 @@ const ONES: usize = 16843009;
 
 // What four bytes say of four steps, where each byte is a code by itself: how far it is from each step to the next. `flags` is 0 where that is
 // so.
-#[derive(Drop)]
+#[derive(Clone, Copy)]
 struct Four {
     first: usize,
     second: usize,

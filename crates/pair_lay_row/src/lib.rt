@@ -1,5 +1,7 @@
 // Laying what of a bit row falls into a window, by words of the row as they are, and moving a walk past it.
 
+#![tactic(auto)]
+
 ghost use Rattle.std.specs.Prelude.{◌≡◌, ◌+◌, ◌*◌, ◌^◌, ◌≤◌, ◌<◌, length};
 ghost use Rattle.lists.specs.Stores.{Brief};
 ghost use Rattle.row.specs.Words.{word_bytes, word_bits};

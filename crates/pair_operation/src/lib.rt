@@ -1,10 +1,12 @@
 // What an operation on two lists of steps keeps, and the list that it makes of them.
 
+#![tactic(auto)]
+
 ghost use Rattle.std.specs.Prelude.{◌≡◌};
 ghost use Rattle.pair_operation.specs.Result.{keeps};
 
 // What is asked of two images.
-#[derive(Drop)]
+#[derive(Clone, Copy)]
 pub enum Operation {
     Both,
     Either,

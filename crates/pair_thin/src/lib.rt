@@ -2,6 +2,8 @@
 // buffers are merged, one step a turn, without a branch on which side comes first. This is the way for lists whose steps are thin; it keeps
 // no list but the two buffers.
 
+#![tactic(auto)]
+
 ghost use Rattle.std.specs.Prelude.{◌≡◌, ◌++◌, ◌+◌, ◌≤◌, ◌<◌, length, drop};
 ghost use Rattle.std.proofs.lemmas.List.Edits.{sets};
 ghost use Rattle.lists.specs.Choice.{pick};
@@ -20,7 +22,7 @@ use pair_operation::Operation;
 const BATCH: usize = 256;
 
 // How many numbers some turns of a merge took of each side, and how many steps they kept.
-#[derive(Drop)]
+#[derive(Clone, Copy)]
 struct Progress {
     left: usize,
     right: usize,
@@ -28,7 +30,7 @@ struct Progress {
 }
 
 // The two sides of a merge: the feed of each, the lower of the numbers that the two show first, and how many steps the last round kept.
-#[derive(Drop)]
+#[derive(Clone, Copy)]
 struct Sides {
     left: Feed,
     right: Feed,

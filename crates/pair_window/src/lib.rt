@@ -1,6 +1,8 @@
 // A window of words over the steps: bit j of word i stands for step o + 64 i + j, where o is the window's first step. Bits are laid over
 // those that are there, so that steps may come more than once.
 
+#![tactic(auto)]
+
 ghost use Rattle.std.specs.Prelude.{[], ◌∷◌, ℕ, ◌+◌, ◌*◌, ◌<◌, length};
 ghost use Rattle.lists.specs.Stores.{Brief};
 ghost use Rattle.row.specs.Row.{bits_from};

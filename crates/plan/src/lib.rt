@@ -5,6 +5,8 @@
 // Y_j = 8·F_j + P_j. So going back from the end, two numbers are enough: the least of C(i, j) + F_j, and the least of Y_j, over all ends j; F_j
 // itself is the lesser of the two blocks that they give. Which end the tie rule wants is asked only at the blocks that are written, going forward.
 
+#![tactic(auto)]
+
 ghost use Rattle.std.specs.Prelude.{◌≡◌, false, ◌+◌, ◌*◌, ◌<◌, ◌≤◌, min, length, get_or, set};
 ghost use Rattle.lists.specs.Rising.{past};
 ghost use Rattle.rules.specs.Limits.{most_steps};
@@ -31,7 +33,7 @@ const ROW_BITS: u32 = ENTRY_BITS + (BYTE_BITS - 1);
 const STRIDE: usize = 16;
 
 // The totals of the best cut of a list: how many blocks it has, and their bytes, entries included.
-#[derive(Drop)]
+#[derive(Clone, Copy)]
 pub struct Totals {
     pub blocks: usize,
     pub bytes: usize,
@@ -39,7 +41,7 @@ pub struct Totals {
 
 // What a turn needs of the ranks after its own: the fewest bytes of what follows the code of its step in a block of codes; and the least Y_j,
 // with the bits that a row adds.
-#[derive(Drop)]
+#[derive(Clone, Copy)]
 struct Turn {
     rest: u32,
     reach: u32,

@@ -1,6 +1,8 @@
 // Checking an image and reading it back. The counts come first, then the directory, then each block in its own part of the payload. A
 // buffer is touched only after the whole image was accepted.
 
+#![tactic(auto)]
+
 ghost use Rattle.std.specs.Prelude.{◌≡◌, length};
 ghost use Rattle.std.proofs.lemmas.List.Edits.{sets};
 ghost use Rattle.image.specs.Entry.{entries_at, entry_place, start};
@@ -14,7 +16,7 @@ use image::Opening;
 use rules::Refusal;
 
 // What checking or reading an image answers: the number of its steps, or a refusal.
-#[derive(Drop)]
+#[derive(Clone, Copy)]
 pub enum Checked {
     Accepted { steps: u32 },
     Refused(Refusal),

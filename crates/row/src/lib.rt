@@ -1,6 +1,8 @@
 // A bit row: bit j stands for step o + j, in byte j div 8, the lowest bit first. How many ones it has, where the last one is, the k-th one
 // of a byte, the step at an index, and the first step at or after another. Bytes are read one by one or by words.
 
+#![tactic(auto)]
+
 ghost use Rattle.std.specs.Prelude.{◌≡◌, ◌+◌, ◌-◌, ◌*◌, ◌/◌, ◌%◌, ◌^◌, ◌≤◌, ◌<◌, length, get_or, take, drop};
 ghost use Rattle.lists.specs.Rising.{beyond};
 ghost use Rattle.lists.specs.Below.{below};

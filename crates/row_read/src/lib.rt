@@ -1,5 +1,7 @@
 // The steps of a bit row, put into a buffer word by word.
 
+#![tactic(auto)]
+
 ghost use Rattle.std.specs.Prelude.{◌≡◌, ◌+◌, ◌*◌, ◌^◌, ◌≤◌, ◌<◌, length};
 ghost use Rattle.lists.specs.Stores.{Puts};
 ghost use Rattle.row.specs.Row.{row_steps};

@@ -1,5 +1,7 @@
 // The bit row of a rising list, put into bytes. Steps are marked one by one or, where they are neighbours, eight at once.
 
+#![tactic(auto)]
+
 ghost use Rattle.std.specs.Prelude.{◌≡◌, [], ◌+◌, ◌^◌, ◌≤◌, ◌<◌, length, get_or, drop};
 ghost use Rattle.std.proofs.lemmas.List.Edits.{sets};
 ghost use Rattle.lists.specs.Rising.{Rising};

@@ -1,5 +1,7 @@
 // What document 01 fixes once for all: the limits, the sizes of an image's parts, the refusals, and fixed-width numbers.
 
+#![tactic(auto)]
+
 ghost use Rattle.std.specs.Prelude.{◌≡◌, ◌+◌, ◌^◌, ◌≤◌, ◌<◌, min, length};
 ghost use Rattle.std.proofs.lemmas.List.Edits.{sets};
 ghost use Rattle.rules.specs.Limits.{largest_step, most_steps, no_step};
@@ -67,7 +69,7 @@ pub const NOT_IN_THE_YEAR: u32 = 18;
 pub const NO_SUCH_CURSOR: u32 = 19;
 
 // A refusal: its number, the image of a pair that it is about (1 or 2, else 0), and its place.
-#[derive(Drop)]
+#[derive(Clone, Copy)]
 pub struct Refusal {
     pub number: u32,
     pub side: u32,

@@ -2,6 +2,8 @@
 // its part of the payload and its entry. The planner leaves a word for each block in the work area: at i for the block that begins at rank i,
 // twice its upto, and one more for a row.
 
+#![tactic(auto)]
+
 ghost use Rattle.std.specs.Prelude.{◌≡◌, ◌++◌, ◌+◌, ◌^◌, ◌≤◌, ◌<◌, length, drop, replicate};
 ghost use Rattle.std.proofs.lemmas.List.Edits.{sets};
 ghost use Rattle.lists.specs.Stores.{Puts};
@@ -21,7 +23,7 @@ use rules::Refusal;
 use write_list::Tested;
 
 // What writing a list, or a pair of images, answers: the number of steps and the length of the image, or a refusal.
-#[derive(Drop)]
+#[derive(Clone, Copy)]
 pub enum Counted {
     Accepted { steps: u32, bytes: u32 },
     Refused(Refusal),

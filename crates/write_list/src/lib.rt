@@ -1,6 +1,8 @@
 // The tests of a list of steps, for every caller that is handed one: no more steps than a list may have, none above the largest, and each above
 // its forerunner. A list that stands them is one of document 01's.
 
+#![tactic(auto)]
+
 ghost use Rattle.std.specs.Prelude.{◌≡◌, true, ◌≤◌, length};
 ghost use Rattle.write_list.specs.Faults.{above, falls, first_above, first_fall};
 ghost use Rattle.write_list.specs.Tests.{test_of};
@@ -9,7 +11,7 @@ ghost use Rattle.write_list.specs.Inside.Passed.{Passed};
 use rules::Refusal;
 
 // What testing a list answers: that it is one of document 01's, or a refusal.
-#[derive(Drop)]
+#[derive(Clone, Copy)]
 pub enum Tested {
     Accepted,
     Refused(Refusal),

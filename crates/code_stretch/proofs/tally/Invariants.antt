@@ -1,0 +1,13 @@
+-- `code_stretch::tally` meets its contract: what is added and what the bytes from i on say is all. Assumes nothing.
+use Prim.Native.Nat.{◌-◌, ◌≤◌}
+use native.Mathlib.Omega.{arith}
+use Rattle.code_stretch.proofs.Bytewise.{Adding, Adding_start, Adding_turn, adding_end}
+use Rattle.code_stretch.proofs.tally.Given as goal
+
+abbrev pub invariant-loop-i : goal.invariant-loop-i
+invariant-loop-i l =
+    (l.at ≤ l.i) × (l.i ≤ l.upto) × Adding l.s l.at l.upto l.i l.low l.second l.third l.fourth l.ends l.flaws
+
+abbrev pub decreases-loop-i : goal.decreases-loop-i
+decreases-loop-i l =
+    l.upto - l.i

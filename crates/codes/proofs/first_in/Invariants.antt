@@ -1,0 +1,22 @@
+-- `codes::first_in` meets its contract. The invariant: `index` steps were passed, which are below x, and what is looked for is found among
+-- those from `at` on.
+-- Assumes nothing.
+use mathlib.Core.Path.{refl, ◌∙◌}
+use Prim.Native.Nat.{◌+◌, ◌-◌, ◌≤◌}
+use native.Mathlib.Omega.{arith}
+use lib.ListN.{length}
+use Rattle.code_stretch.specs.Runs.{Passed}
+use Rattle.codes.specs.Codes.{steps_from, list_of, Sound}
+use Rattle.codes.proofs.Finding.{Ahead, Ahead_answer}
+use Rattle.codes.proofs.Passing.{passed_few, Skipped, passed_steps, skipped_found}
+use Rattle.codes.proofs.first_in.Given as goal
+
+abbrev pub invariant-loop-at : goal.invariant-loop-at
+invariant-loop-at l =
+    (l.at ≤ length l.part)
+    × Sound l.next (steps_from l.next l.part l.at)
+    × Ahead (list_of (steps_from l.from l.part 0)) (list_of (steps_from l.next l.part l.at)) l.x l.index
+    × (l.index ≤ l.at)
+
+abbrev pub decreases-loop-at : goal.decreases-loop-at
+decreases-loop-at l = length l.part - l.at

@@ -1,0 +1,20 @@
+-- `codes::step_from` meets its contract. The invariant: the step asked for is the one at index `left` of the steps from `at` on.
+-- Assumes nothing.
+use mathlib.Core.Path.{◌≡◌, refl, sym, ap, ◌∙◌}
+use Prim.Native.Nat.{◌-◌, ◌≤◌, ◌<◌}
+use native.Mathlib.Omega.{arith}
+use lib.ListN.{length, get_or}
+use Rattle.lists.proofs.Parts.{get_or_here, get_d_past}
+use Rattle.codes.specs.Codes.{steps_from, list_of, Sound}
+use Rattle.codes.proofs.Turns.{steps_none}
+use Rattle.codes.proofs.step_from.Given as goal
+
+abbrev pub invariant-loop-at : goal.invariant-loop-at
+invariant-loop-at l =
+    (l.at ≤ length l.part)
+    × Sound l.next (steps_from l.next l.part l.at)
+    × (get_or (list_of (steps_from l.from l.part l.start)) l.k 0 ≡ get_or (list_of (steps_from l.next l.part l.at)) l.left 0)
+    × (l.left < length (list_of (steps_from l.next l.part l.at)))
+
+abbrev pub decreases-loop-at : goal.decreases-loop-at
+decreases-loop-at l = length l.part - l.at

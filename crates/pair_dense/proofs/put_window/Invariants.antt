@@ -1,0 +1,19 @@
+-- `pair_dense::put_window` meets its contract. The invariant: the steps from word i on are left to store. Assumes nothing.
+use mathlib.Core.Path.{sym}
+use Prim.Native.Nat.{◌+◌, ◌-◌, ◌*◌, ◌≤◌}
+use native.Mathlib.Omega.{arith}
+use lib.ListN.{length}
+use Rattle.lists.proofs.Stores.{Storing, Storing_start, Storing_same, Storing_run, storing_end}
+use Rattle.row.specs.Row.{bits_from}
+use Rattle.row.specs.Words.{word_bits}
+use Rattle.row.proofs.Bits.{beyond_bits, length_bits_moved}
+use Rattle.pair_dense.specs.Inside.Words.{steps_in}
+use Rattle.pair_dense.proofs.Words.{left_in, left_start, left_turn, left_length, left_end}
+use Rattle.pair_dense.proofs.put_window.Given as goal
+
+abbrev pub invariant-loop-i : goal.invariant-loop-i
+invariant-loop-i l =
+    (l.i ≤ length l.left) × Storing l.initial.steps l.at (steps_in l.op l.from l.left l.right) l.steps l.k (left_in l.op l.from l.left l.right l.i)
+
+abbrev pub decreases-loop-i : goal.decreases-loop-i
+decreases-loop-i l = length l.left - l.i

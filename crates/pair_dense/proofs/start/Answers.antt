@@ -1,0 +1,7 @@
+-- `pair_dense::start` meets its contract: each walk has all steps of its image ahead. Assumes nothing.
+use Rattle.pair_dense.proofs.Walking.{begins}
+use Rattle.pair_dense.proofs.start.Goals as goal
+
+pub returns : goal.returns
+returns c = begins (λ i. (c.type_inv.first i).fits) (λ i. (c.type_inv.second i).fits) c.requires.0.0 c.requires.1.0
+    c.first-a.ensures c.first-b.ensures c.lower.ensures

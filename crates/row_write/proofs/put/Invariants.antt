@@ -1,0 +1,16 @@
+-- `row_write::put` meets its contract: the marks of the steps from rank i on are left, in bytes that were 0 at first. Assumes nothing.
+use mathlib.Core.Path.{◌≡◌, refl, sym, ap, ◌∙◌}
+use Prim.Native.Nat.{ℕ, ◌+◌, ◌-◌, ◌%◌, ◌≤◌}
+use native.Mathlib.Omega.{arith}
+use lib.ListN.{length, drop}
+use Rattle.row.specs.Row.{byte_bits}
+use Rattle.row_write.specs.Inside.Marks.{marked, Markable}
+use Rattle.row_write.proofs.Marking.{marked_start, mark_start, mark_next, marked_end}
+use Rattle.row_write.proofs.put.Given as goal
+
+abbrev pub invariant-loop-i : goal.invariant-loop-i
+invariant-loop-i l =
+    (l.i ≤ l.whole) × (l.i % byte_bits ≡ 0) × (length l.out ≡ length l.initial.out) × Markable l.from l.at l.list l.i l.out × (marked l.from l.at (drop l.i l.list) l.out ≡ marked l.from l.at l.list l.initial.out)
+
+abbrev pub decreases-loop-i : goal.decreases-loop-i
+decreases-loop-i l = l.whole - l.i

@@ -1,0 +1,52 @@
+-- `write::put_blocks` meets its contract. The invariant: the entries and the parts of the blocks that begin before rank `i` are stored.
+-- Assumes nothing.
+use mathlib.Core.List.{List}
+use Prim.Native.Nat.{◌-◌}
+use native.Mathlib.Omega.{arith}
+use lib.ListN.{length}
+use Rattle.cut.specs.Cut.{Block}
+use Rattle.plan.specs.Planned.{cut_of}
+use Rattle.write.proofs.Laying.{Laying, laying_start, Laying_next, laying_turn, laying_end}
+use Rattle.write.proofs.put_blocks.Goals as goal
+
+pub overflow_mul-base : goal.overflow_mul-base
+overflow_mul-base c = omega arith
+
+pub overflow_add-base : goal.overflow_add-base
+overflow_add-base c = omega arith
+
+pub overflow_add-base-2 : goal.overflow_add-base-2
+overflow_add-base-2 c = omega arith
+
+pub loop-i-init : goal.loop-i-init
+loop-i-init c = (cut_of c.args.list.now, laying_start c.requires.0.0 c.requires.0.1 c.requires.1)
+
+pub offset_bounds-work-i : goal.offset_bounds-work-i
+offset_bounds-work-i c = omega arith
+
+pub bounds-work-i : goal.bounds-work-i
+bounds-work-i c = omega arith
+
+pub overflow_cast-word : goal.overflow_cast-word
+overflow_cast-word c = omega (arith, c.type_inv.work c.loop-i.i)
+
+pub put_block-p-requires : goal.put_block-p-requires
+put_block-p-requires c = let t = Laying_next c.loop-i.invariant.1 (omega arith) in
+    ((t.within, t.entry, t.laying.low), t.part)
+
+pub overflow_add-at : goal.overflow_add-at
+overflow_add-at c = omega (arith, (Laying_next c.loop-i.invariant.1 (omega arith)).entry)
+
+pub loop-i-smaller : goal.loop-i-smaller
+loop-i-smaller c = let w = (Laying_next c.loop-i.invariant.1 (omega arith)).within in
+    omega (arith, w.after, w.inside)
+
+pub loop-i-preserved : goal.loop-i-preserved
+loop-i-preserved c = let t = Laying_next c.loop-i.invariant.1 (omega arith) in
+    (t.rest, laying_turn t c.put_block-p.ensures)
+
+pub shape_of-out : goal.shape_of-out
+shape_of-out c = c.loop-i.invariant.1.same
+
+pub returns : goal.returns
+returns c = laying_end c.loop-i.invariant.1 c.loop-i-test.false

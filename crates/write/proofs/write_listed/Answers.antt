@@ -1,0 +1,35 @@
+-- `write::write_listed` meets its contract: the bytes of the plan decide whether the image is put, and the work area is cleared either way.
+-- Assumes nothing.
+use mathlib.Core.Path.{ap, ◌∙◌}
+use mathlib.Core.Logic.{⊎_elim}
+use native.Mathlib.Omega.{arith}
+use lib.ListN.{length}
+use lib.Seq.{length-sets}
+use Rattle.rules.specs.Limits.Laws.{most_counted}
+use Rattle.write.specs.Written.{image_for}
+use Rattle.write.proofs.Outcomes.{length_planned, planned_fits, planned_Marks, Promise_unplaced, Promise_placed}
+use Rattle.write.proofs.write_listed.Goals as goal
+
+pub overflow_add-bytes : goal.overflow_add-bytes
+overflow_add-bytes c = omega (arith, planned_fits c.plan-totals.ensures c.requires.0)
+
+pub put_image-requires : goal.put_image-requires
+put_image-requires c = (planned_Marks c.plan-totals.ensures c.requires.0 c.requires.1, c.plan-totals.ensures.blocks, omega (arith, length_planned c.plan-totals.ensures))
+
+pub overflow_cast-answer : goal.overflow_cast-answer
+overflow_cast-answer c = omega (arith, c.requires.0.few, most_counted)
+
+pub overflow_cast-answer-then-bytes-out : goal.overflow_cast-answer-then-bytes-out
+overflow_cast-answer-then-bytes-out c = omega (arith, planned_fits c.plan-totals.ensures c.requires.0)
+
+pub refuse-answer-requires : goal.refuse-answer-requires
+refuse-answer-requires c = omega (arith, planned_fits c.plan-totals.ensures c.requires.0)
+
+pub shape_of-out : goal.shape_of-out
+shape_of-out c = ⊎_elim (λ w. ap length (w.6 ∙ w.3.ensures) ∙ length-sets _ 0 (image_for _)) (λ w. ap length w.2) c.if-bytes-out.branch
+
+pub returns : goal.returns
+returns c = ⊎_elim
+    (λ w. Promise_placed c.plan-totals.ensures c.requires.0 c.requires.1 c.work_for.ensures c.clear.ensures c.args.out.now w.0.true w.7 (w.6 ∙ w.3.ensures))
+    (λ w. Promise_unplaced c.plan-totals.ensures c.requires.0 c.requires.1 c.work_for.ensures c.clear.ensures c.args.out.now (omega (arith, w.0.left)) (w.3 ∙ w.1.ensures) w.2)
+    c.if-bytes-out.branch
