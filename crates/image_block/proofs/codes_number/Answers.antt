@@ -1,4 +1,5 @@
 -- `image_block::codes_number` meets its contract, by what checking the codes finds. Assumes nothing.
+use borrow.Author.Rules.{rules}
 use mathlib.Core.Path.{sym, ◌∙◌}
 use Rattle.rules.specs.Limits.Laws.{largest_coded}
 use Rattle.image_block.proofs.Judged.{number_codes, number_bad}

@@ -1,4 +1,5 @@
 -- `image_block::row_number` meets its contract, by the row's length and by where its last one stands. Assumes nothing.
+use borrow.Author.Rules.{rules}
 use mathlib.Core.Path.{sym, ◌∙◌}
 use native.Mathlib.Omega.{arith}
 use Rattle.rules.specs.Limits.Laws.{largest_coded}

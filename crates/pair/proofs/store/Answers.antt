@@ -7,5 +7,5 @@ pub slice_bounds-put-end : goal.slice_bounds-put-end
 slice_bounds-put-end c = length_lent c.args.n c.args.few.now c.if-n-few.true
 
 pub returns-then-n-few : goal.returns-then-n-few
-returns-then-n-few c = Held_copied c.args.op c.args.first.now c.args.second.now c.requires.0.1 c.if-n-few.true c.args.steps.now c.requires.1
-    (c.put.ensures (omega (arith, c.requires.0.1.counted, c.requires.1, length_lent c.args.n c.args.few.now c.if-n-few.true)))
+returns-then-n-few c = Held_copied c.args.op c.args.first.now c.args.second.now c.requires.taken.1 c.if-n-few.true c.args.steps.now c.requires.second_in_bounds
+    (c.put.ensures (omega (arith, c.requires.taken.1.counted, c.requires.second_in_bounds, length_lent c.args.n c.args.few.now c.if-n-few.true)))

@@ -17,8 +17,8 @@ use Rattle.pair.proofs.stored.Goals.{After-slice_known-6-1, After-write_front-ar
 -- the result is one of document 01's lists
 listed : (c : After-write_front-arg-2-1) → Listed (result_of c.args.op (steps_of c.args.first.now) (steps_of c.args.second.now))
 listed c =
-    result_Listed c.args.op (steps_Listed c.args.first.now (λ i. omega (arith, c.type_inv.first i)) c.requires.0.first_taken)
-    (steps_Listed c.args.second.now (λ i. omega (arith, c.type_inv.second i)) c.requires.0.second_taken) c.requires.0.room.few
+    result_Listed c.args.op (steps_Listed c.args.first.now (λ i. omega (arith, c.type_inv.first i)) c.requires.ready.first_taken)
+    (steps_Listed c.args.second.now (λ i. omega (arith, c.type_inv.second i)) c.requires.ready.second_taken) c.requires.ready.room.few
 
 -- the front of the stored steps is the result
 front : (c : After-write_front-arg-2-1) → take c.store-k.result c.store-k.new.steps ≡ result_of c.args.op (steps_of c.args.first.now) (steps_of c.args.second.now)
@@ -29,12 +29,12 @@ front c =
 -- there is room for as many steps as were stored
 roomy-After-write_front-arg-2-1 : (c : After-write_front-arg-2-1) → Roomy c.store-k.result (length c.args.steps.now) (length c.args.work.now)
 roomy-After-write_front-arg-2-1 c =
-    subst (λ (k : ℕ). Roomy k (length c.args.steps.now) (length c.args.work.now)) (sym c.store-k.ensures.0) c.requires.0.room
+    subst (λ (k : ℕ). Roomy k (length c.args.steps.now) (length c.args.work.now)) (sym c.store-k.ensures.0) c.requires.ready.room
 
 -- there is room for as many steps as were stored
 roomy-After-slice_known-6-1 : (c : After-slice_known-6-1) → Roomy c.store-k.result (length c.args.steps.now) (length c.args.work.now)
 roomy-After-slice_known-6-1 c =
-    subst (λ (k : ℕ). Roomy k (length c.args.steps.now) (length c.args.work.now)) (sym c.store-k.ensures.0) c.requires.0.room
+    subst (λ (k : ℕ). Roomy k (length c.args.steps.now) (length c.args.work.now)) (sym c.store-k.ensures.0) c.requires.ready.room
 
 pub write_front-requires : goal.write_front-requires
 write_front-requires c = (
@@ -45,4 +45,4 @@ write_front-requires c = (
 
 pub returns : goal.returns
 returns c = Promise_written c.args.op c.args.first.now c.args.second.now c.args.steps.now c.args.work.now c.args.out.now
-    c.requires.0.first_taken c.requires.0.second_taken c.store-k.result c.store-k.ensures.0 c.store-k.ensures.1 (roomy-After-slice_known-6-1 c) c.write_front.ensures
+    c.requires.ready.first_taken c.requires.ready.second_taken c.store-k.result c.store-k.ensures.0 c.store-k.ensures.1 (roomy-After-slice_known-6-1 c) c.write_front.ensures

@@ -24,7 +24,7 @@ loop-m-init c = (c.start-m.ensures.together, Counting_start c.start-m.ensures c.
 
 pub lay_both-m-requires : goal.lay_both-m-requires
 lay_both-m-requires c = let empty = sym (words_empty _ c.loop-m.m.next) in
-    ((c.loop-m.invariant.0, omega (arith, c.no_step-end.ensures)), ((empty, (omega arith, omega arith)), (empty, omega arith)))
+    record { together = (c.loop-m.invariant.0, omega (arith, c.no_step-end.ensures)); left_value = (empty, (omega arith, omega arith)); right_value = (empty, omega arith) }
 
 pub overflow_add-n : goal.overflow_add-n
 overflow_add-n c = omega (arith, c.loop-m.invariant.1.all, c.loop-m.invariant.1.few, passes_count c.lay_both-m.ensures c.args.op, c.count_window-n.ensures, largest_coded)

@@ -16,23 +16,20 @@ use Rattle.pair_dense.proofs.Windows.{passes_room}
 use Rattle.pair_dense.proofs.store.Goals as goal
 
 pub payload-first_payload-requires : goal.payload-first_payload-requires
-payload-first_payload-requires c = payload_within c.args.first.now c.requires.0.0
+payload-first_payload-requires c = payload_within c.args.first.now c.requires.taken.0
 
 pub payload-second_payload-requires : goal.payload-second_payload-requires
-payload-second_payload-requires c = payload_within c.args.second.now c.requires.0.1
+payload-second_payload-requires c = payload_within c.args.second.now c.requires.taken.1
 
 pub loop-m-init : goal.loop-m-init
-loop-m-init c = (c.start-m.ensures.together, Storing_all c.start-m.ensures c.args.op c.args.steps.now c.requires.1)
+loop-m-init c = (c.start-m.ensures.together, Storing_all c.start-m.ensures c.args.op c.args.steps.now c.requires.second_in_bounds)
 
 pub lay_both-m-requires : goal.lay_both-m-requires
 lay_both-m-requires c = let empty = sym (words_empty _ c.loop-m.m.next) in
-    ((c.loop-m.invariant.0, omega (arith, c.no_step-end.ensures)), ((empty, (omega arith, omega arith)), (empty, omega arith)))
+    record { together = (c.loop-m.invariant.0, omega (arith, c.no_step-end.ensures)); left_value = (empty, (omega arith, omega arith)); right_value = (empty, omega arith) }
 
 pub put_window-n-requires : goal.put_window-n-requires
-put_window-n-requires c = (
-      (c.lay_both-m.ensures.same, omega (arith, c.left-in-loop-m-1.given, c.no_step-end.ensures, largest_coded)),
-      passes_room c.lay_both-m.ensures c.args.op c.loop-m.n _ c.loop-m.invariant.1.room,
-    )
+put_window-n-requires c = record { left_len = (c.lay_both-m.ensures.same, omega (arith, c.left-in-loop-m-1.given, c.no_step-end.ensures, largest_coded)); right_in_bounds = passes_room c.lay_both-m.ensures c.args.op c.loop-m.n _ c.loop-m.invariant.1.room }
 
 pub loop-m-smaller : goal.loop-m-smaller
 loop-m-smaller c = c.lay_both-m.ensures.past
@@ -51,5 +48,5 @@ returns c = let s =
     storing_end c.loop-m.invariant.1 (together_end c.loop-m.invariant.0 c.args.op (omega (arith, c.no_step-end.ensures)))
     in (
       omega (arith, s.place),
-      s.stores ∙ sets_front c.args.steps.now (result_of c.args.op (steps_of c.args.first.now) (steps_of c.args.second.now)) c.requires.1,
+      s.stores ∙ sets_front c.args.steps.now (result_of c.args.op (steps_of c.args.first.now) (steps_of c.args.second.now)) c.requires.second_in_bounds,
     )

@@ -13,22 +13,22 @@ use Rattle.pair_feed.proofs.on.Goals.{After-slice_known-2-1, Then-w, Then-w-ne0}
 stored-Then-w-ne0 : (c : Then-w-ne0) → Grown c.args.image.now c.args.payload.now c.args.f c.args.steps.now (record { walk = c.past-w.result; at = c.args.f.at; end = c.args.f.end + 1 })
     (set c.args.steps.now c.args.f.end c.args.f.walk.step)
 stored-Then-w-ne0 c =
-    Grown_one (Grown_start c.requires.0.0 (omega (arith, c.requires.1.0))) c.requires.1.0 c.past-w.result c.past-w.ensures.0 c.past-w.ensures.1
+    Grown_one (Grown_start c.requires.stands.0 (omega (arith, c.requires.end_in_bounds.0))) c.requires.end_in_bounds.0 c.past-w.result c.past-w.ensures.0 c.past-w.ensures.1
 
 -- the walk's step is stored, and the walk is past it
 stored-Then-w : (c : Then-w) → Grown c.args.image.now c.args.payload.now c.args.f c.args.steps.now (record { walk = c.past-w.result; at = c.args.f.at; end = c.args.f.end + 1 })
     (set c.args.steps.now c.args.f.end c.args.f.walk.step)
 stored-Then-w c =
-    Grown_one (Grown_start c.requires.0.0 (omega (arith, c.requires.1.0))) c.requires.1.0 c.past-w.result c.past-w.ensures.0 c.past-w.ensures.1
+    Grown_one (Grown_start c.requires.stands.0 (omega (arith, c.requires.end_in_bounds.0))) c.requires.end_in_bounds.0 c.past-w.result c.past-w.ensures.0 c.past-w.ensures.1
 
 -- the walk's step is stored, and the walk is past it
 stored-After-slice_known-2-1 : (c : After-slice_known-2-1) → Grown c.args.image.now c.args.payload.now c.args.f c.args.steps.now (record { walk = c.past-w.result; at = c.args.f.at; end = c.args.f.end + 1 })
     (set c.args.steps.now c.args.f.end c.args.f.walk.step)
 stored-After-slice_known-2-1 c =
-    Grown_one (Grown_start c.requires.0.0 (omega (arith, c.requires.1.0))) c.requires.1.0 c.past-w.result c.past-w.ensures.0 c.past-w.ensures.1
+    Grown_one (Grown_start c.requires.stands.0 (omega (arith, c.requires.end_in_bounds.0))) c.requires.end_in_bounds.0 c.past-w.result c.past-w.ensures.0 c.past-w.ensures.1
 
 pub overflow_cast-steps : goal.overflow_cast-steps
-overflow_cast-steps c = omega (arith, c.requires.0.1, largest_coded)
+overflow_cast-steps c = omega (arith, c.requires.stands.1, largest_coded)
 
 pub returns-then-w-ne0 : goal.returns-then-w-ne0
 returns-then-w-ne0 c = (stored-Then-w-ne0 c, omega arith)
@@ -37,10 +37,7 @@ pub returns-then-w : goal.returns-then-w
 returns-then-w c = (stored-Then-w c, omega arith)
 
 pub run-requires : goal.run-requires
-run-requires c = let n = length-set c.args.steps.now c.args.f.end c.args.f.walk.step in (
-      (c.past-w.ensures.0, (omega (arith, c.if-w-ne0.false), omega (arith, c.if-w.false))),
-      (omega (arith, n, c.requires.1.0), (omega (arith, n, c.requires.1.0), omega (arith, n, c.requires.1.1))),
-    )
+run-requires c = let n = length-set c.args.steps.now c.args.f.end c.args.f.walk.step in record { stands = (c.past-w.ensures.0, (omega (arith, c.if-w-ne0.false), omega (arith, c.if-w.false))); steps_nonzero = (omega (arith, n, c.requires.end_in_bounds.0), (omega (arith, n, c.requires.end_in_bounds.0), omega (arith, n, c.requires.end_in_bounds.1))) }
 
 pub shape_of-steps : goal.shape_of-steps
 shape_of-steps c = c.run.ensures.size ∙ length-set c.args.steps.now c.args.f.end c.args.f.walk.step

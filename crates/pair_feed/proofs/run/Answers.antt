@@ -121,22 +121,22 @@ small-After-struct_known-in-loop-k-4-1 c = omega (arith, run_step c.loop-k.invar
 -- there is room for two
 room-Else-x-ne0 : (c : Else-x-ne0) → (c.loop-k.k + 1 < length c.loop-k.steps) × (length c.loop-k.steps < 2 ^ 20)
 room-Else-x-ne0 c =
-    (omega (arith, c.loop-k-test.true, c.loop-k.invariant.size), omega (arith, c.requires.1.1.1, c.loop-k.invariant.size))
+    (omega (arith, c.loop-k-test.true, c.loop-k.invariant.size), omega (arith, c.requires.steps_nonzero.1.1, c.loop-k.invariant.size))
 
 -- there is room for two
 room-After-among-then-x-y-ne0 : (c : After-among-then-x-y-ne0) → (c.loop-k.k + 1 < length c.loop-k.steps) × (length c.loop-k.steps < 2 ^ 20)
 room-After-among-then-x-y-ne0 c =
-    (omega (arith, c.loop-k-test.true, c.loop-k.invariant.size), omega (arith, c.requires.1.1.1, c.loop-k.invariant.size))
+    (omega (arith, c.loop-k-test.true, c.loop-k.invariant.size), omega (arith, c.requires.steps_nonzero.1.1, c.loop-k.invariant.size))
 
 -- there is room for two
 room-Else-x-y-ne0 : (c : Else-x-y-ne0) → (c.loop-k.k + 1 < length c.loop-k.steps) × (length c.loop-k.steps < 2 ^ 20)
 room-Else-x-y-ne0 c =
-    (omega (arith, c.loop-k-test.true, c.loop-k.invariant.size), omega (arith, c.requires.1.1.1, c.loop-k.invariant.size))
+    (omega (arith, c.loop-k-test.true, c.loop-k.invariant.size), omega (arith, c.requires.steps_nonzero.1.1, c.loop-k.invariant.size))
 
 -- there is room for two
 room-After-struct_known-in-loop-k-5-1 : (c : After-struct_known-in-loop-k-5-1) → (c.loop-k.k + 1 < length c.loop-k.steps) × (length c.loop-k.steps < 2 ^ 20)
 room-After-struct_known-in-loop-k-5-1 c =
-    (omega (arith, c.loop-k-test.true, c.loop-k.invariant.size), omega (arith, c.requires.1.1.1, c.loop-k.invariant.size))
+    (omega (arith, c.loop-k-test.true, c.loop-k.invariant.size), omega (arith, c.requires.steps_nonzero.1.1, c.loop-k.invariant.size))
 
 bytes-After-among-then-x-y-ne0 : (c : After-among-then-x-y-ne0) → Bytes c.args.payload.now
 bytes-After-among-then-x-y-ne0 c = λ i. omega (arith, c.shared_slice_known-2-1.given i)
@@ -145,13 +145,13 @@ bytes-After-struct_known-in-loop-k-5-1 : (c : After-struct_known-in-loop-k-5-1) 
 bytes-After-struct_known-in-loop-k-5-1 c = λ i. omega (arith, c.shared_slice_known-2-1.given i)
 
 pub returns-then-end-lt-PAIR_BYTES : goal.returns-then-end-lt-PAIR_BYTES
-returns-then-end-lt-PAIR_BYTES c = Grown_start c.requires.0.0 c.requires.1.1.0
+returns-then-end-lt-PAIR_BYTES c = Grown_start c.requires.stands.0 c.requires.steps_nonzero.1.0
 
 pub overflow_sub-most : goal.overflow_sub-most
-overflow_sub-most c = omega (arith, c.requires.1.0)
+overflow_sub-most c = omega (arith, c.requires.steps_nonzero.0)
 
 pub loop-k-init : goal.loop-k-init
-loop-k-init c = run_start c.requires.0.0 c.requires.0.1.0 c.requires.0.1.1 c.requires.1.1.0
+loop-k-init c = run_start c.requires.stands.0 c.requires.stands.1.0 c.requires.stands.1.1 c.requires.steps_nonzero.1.0
 
 pub among-requires : goal.among-requires
 among-requires c = tt

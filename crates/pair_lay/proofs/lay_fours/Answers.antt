@@ -84,27 +84,27 @@ strides-After-struct_known-in-loop-at-4-1 c =
 -- past the second: all four fall into the window
 within-After-mark-arg-1 : (c : After-mark-arg-1) → (c.loop-at.place + c.four_at-four.result.first + c.four_at-four.result.second + c.four_at-four.result.third < word_bits * length c.loop-at.words) × (length c.loop-at.words < 2 ^ 20)
 within-After-mark-arg-1 c =
-    (omega (arith, c.if-room-fourth.false, c.loop-at.invariant.size), omega (arith, c.requires.1, c.loop-at.invariant.size))
+    (omega (arith, c.if-room-fourth.false, c.loop-at.invariant.size), omega (arith, c.requires.from_le_step, c.loop-at.invariant.size))
 
 -- past the second: all four fall into the window
 within-After-mark-arg-in-loop-at-1 : (c : After-mark-arg-in-loop-at-1) → (c.loop-at.place + c.four_at-four.result.first + c.four_at-four.result.second + c.four_at-four.result.third < word_bits * length c.loop-at.words) × (length c.loop-at.words < 2 ^ 20)
 within-After-mark-arg-in-loop-at-1 c =
-    (omega (arith, c.if-room-fourth.false, c.loop-at.invariant.size), omega (arith, c.requires.1, c.loop-at.invariant.size))
+    (omega (arith, c.if-room-fourth.false, c.loop-at.invariant.size), omega (arith, c.requires.from_le_step, c.loop-at.invariant.size))
 
 -- past the second: all four fall into the window
 within-After-mark-arg-in-loop-at-2-1 : (c : After-mark-arg-in-loop-at-2-1) → (c.loop-at.place + c.four_at-four.result.first + c.four_at-four.result.second + c.four_at-four.result.third < word_bits * length c.loop-at.words) × (length c.loop-at.words < 2 ^ 20)
 within-After-mark-arg-in-loop-at-2-1 c =
-    (omega (arith, c.if-room-fourth.false, c.loop-at.invariant.size), omega (arith, c.requires.1, c.loop-at.invariant.size))
+    (omega (arith, c.if-room-fourth.false, c.loop-at.invariant.size), omega (arith, c.requires.from_le_step, c.loop-at.invariant.size))
 
 -- past the second: all four fall into the window
 within-After-mark-arg-in-loop-at-3-1 : (c : After-mark-arg-in-loop-at-3-1) → (c.loop-at.place + c.four_at-four.result.first + c.four_at-four.result.second + c.four_at-four.result.third < word_bits * length c.loop-at.words) × (length c.loop-at.words < 2 ^ 20)
 within-After-mark-arg-in-loop-at-3-1 c =
-    (omega (arith, c.if-room-fourth.false, c.loop-at.invariant.size), omega (arith, c.requires.1, c.loop-at.invariant.size))
+    (omega (arith, c.if-room-fourth.false, c.loop-at.invariant.size), omega (arith, c.requires.from_le_step, c.loop-at.invariant.size))
 
 -- past the second: all four fall into the window
 within-After-struct_known-in-loop-at-5-1 : (c : After-struct_known-in-loop-at-5-1) → (c.loop-at.place + c.four_at-four.result.first + c.four_at-four.result.second + c.four_at-four.result.third < word_bits * length c.loop-at.words) × (length c.loop-at.words < 2 ^ 20)
 within-After-struct_known-in-loop-at-5-1 c =
-    (omega (arith, c.if-room-fourth.false, c.loop-at.invariant.size), omega (arith, c.requires.1, c.loop-at.invariant.size))
+    (omega (arith, c.if-room-fourth.false, c.loop-at.invariant.size), omega (arith, c.requires.from_le_step, c.loop-at.invariant.size))
 
 -- the window has as many words as before, after each mark
 sized-After-mark-arg-in-loop-at-1 : (c : After-mark-arg-in-loop-at-1) → length c.mark.new.words ≡ length c.loop-at.words
@@ -141,16 +141,16 @@ sized-4 : (c : After-struct_known-in-loop-at-5-1) → length c.mark-in-loop-at-3
 sized-4 c = omega arith
 
 pub overflow_mul-room : goal.overflow_mul-room
-overflow_mul-room c = omega (arith, c.requires.1)
+overflow_mul-room c = omega (arith, c.requires.from_le_step)
 
 pub before_last-upto-requires : goal.before_last-upto-requires
 before_last-upto-requires c = tt
 
 pub overflow_sub-place : goal.overflow_sub-place
-overflow_sub-place c = c.requires.1.0
+overflow_sub-place c = c.requires.from_le_step.0
 
 pub loop-at-init : goal.loop-at-init
-loop-at-init c = Ran_from c.args.payload.now c.args.w c.args.from c.args.words.now c.requires.0.0 c.requires.0.1.0 c.requires.0.1.1 c.requires.1.0
+loop-at-init c = Ran_from c.args.payload.now c.args.w c.args.from c.args.words.now c.requires.placed.0 c.requires.placed.1.0 c.requires.placed.1.1 c.requires.from_le_step.0
 
 pub four_at-four-requires : goal.four_at-four-requires
 four_at-four-requires c = omega (arith, four-left c, (c.loop-at.invariant.placed.on c.loop-at.invariant.on).within)

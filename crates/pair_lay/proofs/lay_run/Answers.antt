@@ -70,10 +70,10 @@ pub lay_fours-v-requires : goal.lay_fours-v-requires
 lay_fours-v-requires c = c.requires
 
 pub overflow_mul-bound : goal.overflow_mul-bound
-overflow_mul-bound c = omega (arith, c.requires.1, (fours-After-slice_known-2-1 c).size)
+overflow_mul-bound c = omega (arith, c.requires.from_le_step, (fours-After-slice_known-2-1 c).size)
 
 pub overflow_add-bound : goal.overflow_add-bound
-overflow_add-bound c = omega (arith, c.requires.1, (fours-After-slice_known-2-1 c).size, c.requires.0.0.step, largest_coded)
+overflow_add-bound c = omega (arith, c.requires.from_le_step, (fours-After-slice_known-2-1 c).size, c.requires.placed.0.step, largest_coded)
 
 pub loop-step-init : goal.loop-step-init
 loop-step-init c = λ first s. s
@@ -96,7 +96,7 @@ overflow_sub-step c = (ran-After-mark-arg-1 c).from
 pub mark-requires : goal.mark-requires
 mark-requires c = let i = ran-After-mark-arg-1 c in
     let z = (fours-After-mark-arg-1 c).size in
-    (omega (arith, c.loop-step-test.true, i.from, i.size, z), omega (arith, c.requires.1, i.size))
+    (omega (arith, c.loop-step-test.true, i.from, i.size, z), omega (arith, c.requires.from_le_step, i.size))
 
 pub overflow_add-step : goal.overflow_add-step
 overflow_add-step c = omega (arith, c.if-gap-ge-CODE_VALUES.false)

@@ -18,23 +18,23 @@ pub no_step-none-requires : goal.no_step-none-requires
 no_step-none-requires c = tt
 
 pub overflow_mul-bound : goal.overflow_mul-bound
-overflow_mul-bound c = omega (arith, c.requires.1.1)
+overflow_mul-bound c = omega (arith, c.requires.words_value.1)
 
 pub overflow_add-bound : goal.overflow_add-bound
-overflow_add-bound c = omega (arith, c.requires.1.1, c.requires.0.1, c.requires.0.0.placed.step, largest_coded)
+overflow_add-bound c = omega (arith, c.requires.words_value.1, c.requires.stands.1, c.requires.stands.0.placed.step, largest_coded)
 
 pub lower-top-requires : goal.lower-top-requires
 lower-top-requires c = tt
 
 pub loop-at-init : goal.loop-at-init
-loop-at-init c = laying_start c.requires.0.0 refl c.requires.1.0
+loop-at-init c = laying_start c.requires.stands.0 refl c.requires.words_value.0
 
 pub lay_loaded-at-requires : goal.lay_loaded-at-requires
 lay_loaded-at-requires c = (
       c.loop-at.invariant.stands,
       (
-        laying_from c.loop-at.invariant c.requires.0.0 (omega arith) c.requires.0.1,
-        (omega (arith, c.loop-at-test.true, c.lower-top.ensures, c.loop-at.invariant.size), (omega (arith, c.loop-at-test.true, c.lower-top.ensures, c.no_step-none.ensures), omega (arith, c.loop-at.invariant.size, c.requires.1.1))),
+        laying_from c.loop-at.invariant c.requires.stands.0 (omega arith) c.requires.stands.1,
+        (omega (arith, c.loop-at-test.true, c.lower-top.ensures, c.loop-at.invariant.size), (omega (arith, c.loop-at-test.true, c.lower-top.ensures, c.no_step-none.ensures), omega (arith, c.loop-at.invariant.size, c.requires.words_value.1))),
       ),
     )
 

@@ -115,10 +115,7 @@ past_word-requires c = (c.requires.1.1, omega (arith, (shifted-Else-bound-w c).0
 pub lay_words-q-requires : goal.lay_words-q-requires
 lay_words-q-requires c = let n = sized-After-lay_words-arg-1 c in
     let from : c.past_word.result.from ≡ c.args.w.low + word_bits = ap (λ (q : Rest). q.from) c.past_word.ensures in
-    let kind : c.past_word.result.kind ≡ c.args.w.bits = ap (λ (q : Rest). q.kind) c.past_word.ensures in (
-      (subst (Readable c.args.payload.now) (sym c.past_word.ensures) (left-on-After-lay_words-arg-1 c).readable, λ z. omega (arith, kind, c.requires.1.1)),
-      (omega (arith, from, (shifted-After-lay_words-arg-1 c).1.0, c.requires.1.0.0), (omega (arith, from, n, c.if-bound-w.false), (omega (arith, c.requires.1.0, largest_coded), omega (arith, n, c.requires.1.0)))),
-    )
+    let kind : c.past_word.result.kind ≡ c.args.w.bits = ap (λ (q : Rest). q.kind) c.past_word.ensures in record { readable = (subst (Readable c.args.payload.now) (sym c.past_word.ensures) (left-on-After-lay_words-arg-1 c).readable, λ z. omega (arith, kind, c.requires.1.1)); from_le_from = (omega (arith, from, (shifted-After-lay_words-arg-1 c).1.0, c.requires.1.0.0), (omega (arith, from, n, c.if-bound-w.false), (omega (arith, c.requires.1.0, largest_coded), omega (arith, n, c.requires.1.0)))) }
 
 pub turned-requires : goal.turned-requires
 turned-requires c = rows_left c.args.image.now (laid_on-After-slice_known-3-1 c) (left-on-After-slice_known-3-1 c)

@@ -8,7 +8,7 @@ use Rattle.pair_lay_row.proofs.Laying.{Rowing, word_part, rowing_start, rowing_t
 use Rattle.pair_lay_row.proofs.lay_words.Goals as goal
 
 pub returns-then-p : goal.returns-then-p
-returns-then-p c = rows_none c.args.payload.now c.args.p c.args.from c.args.words.now c.requires.0.0
+returns-then-p c = rows_none c.args.payload.now c.args.p c.args.from c.args.words.now c.requires.readable.0
 
 pub overflow_sub-place : goal.overflow_sub-place
 overflow_sub-place c = omega arith
@@ -56,7 +56,7 @@ pub loop-i-preserved : goal.loop-i-preserved
 loop-i-preserved c = let at = c.args.p.at + word_bytes * c.loop-i.i in (
       omega arith,
       rowing_turn c.args.payload.now c.args.p c.args.from c.args.words.now c.loop-i.i c.loop-i.words c.loop-i.invariant.1
-          (λ j. omega (arith, c.type_inv.payload j)) c.requires.1.0 c.word-bits.result
+          (λ j. omega (arith, c.type_inv.payload j)) c.requires.from_le_from.0 c.word-bits.result
           (c.word-bits.ensures ∙ ap little (word_part c.args.payload.now at c.args.p.end (omega arith))) _ (omega arith) c.lay.ensures,
     )
 
@@ -77,5 +77,5 @@ shape_of-words c = c.loop-i.invariant.1.size
 
 pub returns : goal.returns
 returns c = let e : c.loop-i.i ≡ c.fitting-count.result = omega (arith, c.loop-i.invariant.0, c.loop-i-test.false) in
-    Rows_laid c.args.payload.now c.args.p c.requires.0.0 c.requires.0.1 c.args.from c.args.words.now c.loop-i.words c.fitting-count.result
+    Rows_laid c.args.payload.now c.args.p c.requires.readable.0 c.requires.readable.1 c.args.from c.args.words.now c.loop-i.words c.fitting-count.result
     (subst (λ (i : ℕ). Rowing c.args.payload.now c.args.p c.args.from c.args.words.now i c.loop-i.words) e c.loop-i.invariant.1) c.fitting-count.ensures.1 (omega arith)

@@ -15,13 +15,13 @@ use Rattle.pair_thin.proofs.Keeping.{Keeping, keeping_start, Keeping_run, keepin
 use Rattle.pair_thin.proofs.store_with.Goals as goal
 
 pub payload-first_payload-requires : goal.payload-first_payload-requires
-payload-first_payload-requires c = payload_within c.args.first.now c.requires.0.0
+payload-first_payload-requires c = payload_within c.args.first.now c.requires.taken.0
 
 pub payload-second_payload-requires : goal.payload-second_payload-requires
-payload-second_payload-requires c = payload_within c.args.second.now c.requires.0.1
+payload-second_payload-requires c = payload_within c.args.second.now c.requires.taken.1
 
 pub start-m-requires : goal.start-m-requires
-start-m-requires c = ((c.requires.0.0, c.payload-first_payload.ensures), ((c.requires.0.1, c.payload-second_payload.ensures), c.requires.1.0))
+start-m-requires c = record { taken = (c.requires.taken.0, c.payload-first_payload.ensures); taken_2 = (c.requires.taken.1, c.payload-second_payload.ensures); small = c.requires.small.0 }
 
 pub loop-m-init : goal.loop-m-init
 loop-m-init c = (
@@ -30,10 +30,7 @@ loop-m-init c = (
     )
 
 pub round-m-requires : goal.round-m-requires
-round-m-requires c = (
-      (c.loop-m.invariant.0.ready, omega (arith, c.no_step-end.ensures)),
-      (((omega (arith, c.loop-m.invariant.0.first, c.requires.1), omega (arith, c.loop-m.invariant.0.first, c.requires.1)), (omega (arith, c.loop-m.invariant.0.second, c.requires.1), omega (arith, c.loop-m.invariant.0.second, c.requires.1))), omega (arith, c.loop-m.invariant.0.first, c.loop-m.invariant.0.third, c.requires.1)),
-    )
+round-m-requires c = record { ready = (c.loop-m.invariant.0.ready, omega (arith, c.no_step-end.ensures)); small = (((omega (arith, c.loop-m.invariant.0.first, c.requires.small), omega (arith, c.loop-m.invariant.0.first, c.requires.small)), (omega (arith, c.loop-m.invariant.0.second, c.requires.small), omega (arith, c.loop-m.invariant.0.second, c.requires.small))), omega (arith, c.loop-m.invariant.0.first, c.loop-m.invariant.0.third, c.requires.small)) }
 
 pub slice_bounds-put-end-in-loop-m : goal.slice_bounds-put-end-in-loop-m
 slice_bounds-put-end-in-loop-m c = let n : c.round-m.result.kept ≡ length (take c.round-m.result.kept c.round-m.last.1.1.1.1.0) =

@@ -14,6 +14,7 @@ use Rattle.plan.specs.Inside.Work.{GoesOn, AllGoOn}
 use Rattle.plan.proofs.Ranks.{goes_on}
 use Rattle.plan.proofs.Passes.{ready_on}
 use Rattle.plan.proofs.ends_within.Goals as goal
+use Rattle.plan.proofs.ends_within.Goals.{then-row_later-work, else-row_later-work}
 use Rattle.plan.proofs.ends_within.Goals.{After-row_later, After-shared_slice_known-in-loop-k-1-unread, In-loop-k, Joined-row_later-work}
 
 within-In-loop-k : (c : In-loop-k) → c.loop-k.k < length c.args.list.now
@@ -58,11 +59,12 @@ loop-k-smaller c = omega (arith, c.loop-k-test.true)
 pub loop-k-preserved : goal.loop-k-preserved
 loop-k-preserved c = (
       omega (arith, c.loop-k.invariant.0),
-      ⊎_elim (λ w. λ e. let z : ◌≡◌ {A = ℕ} 0 1 = cc in absurd (omega arith))
-          (λ w. λ e.
-          below_more (λ u. c.args.j ≤ u → GoesOn c.args.list.now u) c.loop-k.k (c.loop-k.invariant.1 (sym w.1 ∙ e))
-          (λ g. goes_on c.args.list.now c.loop-k.k (within-Joined-row_later-work c) (word c) c.row_later.ensures (omega (arith, w.0.left))))
-          c.if-row_later-work.branch,
+      elim c.if-row_later-work.branch [
+        | then-row_later-work w ↦ λ e. let z : ◌≡◌ {A = ℕ} 0 1 = cc in absurd (omega arith)
+        | else-row_later-work w ↦ λ e.
+          below_more (λ u. c.args.j ≤ u → GoesOn c.args.list.now u) c.loop-k.k (c.loop-k.invariant.1 (sym w.any-is ∙ e))
+          (λ g. goes_on c.args.list.now c.loop-k.k (within-Joined-row_later-work c) (word c) c.row_later.ensures (omega (arith, w.if-row_later-work.false)))
+      ],
     )
 
 pub returns : goal.returns

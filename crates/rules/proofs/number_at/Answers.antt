@@ -1,4 +1,5 @@
 -- `rules::number_at` meets its contract: the four bytes, one after the other, are the number. Assumes nothing.
+use borrow.Author.Rules.{rules}
 use native.Mathlib.Omega.{arith}
 use Rattle.rules.proofs.Numbers.{number_four}
 use Rattle.rules.proofs.number_at.Goals as goal

@@ -20,6 +20,6 @@ returns c = record {
       stores =
           c.put_entry.ensures
           ∙ ap (λ (x : Entry). sets c.put_part-next.new.out c.args.at (entry_bytes x))
-          (entry_within c.args.list.now c.args.i c.args.word c.requires.0.2 c.put_part-next.ensures.place)
+          (entry_within c.args.list.now c.args.i c.args.word c.requires.within.2 c.put_part-next.ensures.place)
           ∙ ap (λ (l : List ℕ). sets l c.args.at (entry_bytes (entry_of c.args.list.now c.args.i (c.args.p - c.args.base) (block_at c.args.word)))) c.put_part-next.ensures.stores;
     }

@@ -19,7 +19,7 @@ pub overflow_add-base-2 : goal.overflow_add-base-2
 overflow_add-base-2 c = omega arith
 
 pub loop-i-init : goal.loop-i-init
-loop-i-init c = (cut_of c.args.list.now, laying_start c.requires.0.0 c.requires.0.1 c.requires.1)
+loop-i-init c = (cut_of c.args.list.now, laying_start c.requires.marks.0 c.requires.marks.1 c.requires.list_in_bounds)
 
 pub offset_bounds-work-i : goal.offset_bounds-work-i
 offset_bounds-work-i c = omega arith
@@ -32,7 +32,7 @@ overflow_cast-word c = omega (arith, c.type_inv.work c.loop-i.i)
 
 pub put_block-p-requires : goal.put_block-p-requires
 put_block-p-requires c = let t = Laying_next c.loop-i.invariant.1 (omega arith) in
-    ((t.within, t.entry, t.laying.low), t.part)
+    record { within = (t.within, t.entry, t.laying.low); word_in_bounds = t.part }
 
 pub overflow_add-at : goal.overflow_add-at
 overflow_add-at c = omega (arith, (Laying_next c.loop-i.invariant.1 (omega arith)).entry)

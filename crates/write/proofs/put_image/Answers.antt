@@ -7,7 +7,7 @@ pub put_number-requires : goal.put_number-requires
 put_number-requires c = omega (arith, length_places c.args.list.now c.requires.1)
 
 pub put_blocks-end-requires : goal.put_blocks-end-requires
-put_blocks-end-requires c = ((c.requires.0, c.requires.1), omega (arith, length_places c.args.list.now c.requires.1))
+put_blocks-end-requires c = record { marks = (c.requires.0, c.requires.1); list_in_bounds = omega (arith, length_places c.args.list.now c.requires.1) }
 
 pub put_number-requires-2 : goal.put_number-requires-2
 put_number-requires-2 c = omega (arith, length_places c.args.list.now c.requires.1)

@@ -9,6 +9,7 @@ use Rattle.rules.specs.Limits.Laws.{most_counted}
 use Rattle.write.specs.Written.{image_for}
 use Rattle.write.proofs.Outcomes.{length_planned, planned_fits, planned_Marks, Promise_unplaced, Promise_placed}
 use Rattle.write.proofs.write_listed.Goals as goal
+use Rattle.write.proofs.write_listed.Goals.{then-bytes-out, else-bytes-out}
 
 pub overflow_add-bytes : goal.overflow_add-bytes
 overflow_add-bytes c = omega (arith, planned_fits c.plan-totals.ensures c.requires.0)
@@ -26,10 +27,13 @@ pub refuse-answer-requires : goal.refuse-answer-requires
 refuse-answer-requires c = omega (arith, planned_fits c.plan-totals.ensures c.requires.0)
 
 pub shape_of-out : goal.shape_of-out
-shape_of-out c = ⊎_elim (λ w. ap length (w.6 ∙ w.3.ensures) ∙ length-sets _ 0 (image_for _)) (λ w. ap length w.2) c.if-bytes-out.branch
+shape_of-out c = elim c.if-bytes-out.branch [
+    | then-bytes-out w ↦ ap length (w.out-is ∙ w.put_image.ensures) ∙ length-sets _ 0 (image_for _)
+    | else-bytes-out w ↦ ap length w.out-is
+  ]
 
 pub returns : goal.returns
-returns c = ⊎_elim
-    (λ w. Promise_placed c.plan-totals.ensures c.requires.0 c.requires.1 c.work_for.ensures c.clear.ensures c.args.out.now w.0.true w.7 (w.6 ∙ w.3.ensures))
-    (λ w. Promise_unplaced c.plan-totals.ensures c.requires.0 c.requires.1 c.work_for.ensures c.clear.ensures c.args.out.now (omega (arith, w.0.left)) (w.3 ∙ w.1.ensures) w.2)
-    c.if-bytes-out.branch
+returns c = elim c.if-bytes-out.branch [
+    | then-bytes-out w ↦ Promise_placed c.plan-totals.ensures c.requires.0 c.requires.1 c.work_for.ensures c.clear.ensures c.args.out.now w.if-bytes-out.true w.answer-is (w.out-is ∙ w.put_image.ensures)
+    | else-bytes-out w ↦ Promise_unplaced c.plan-totals.ensures c.requires.0 c.requires.1 c.work_for.ensures c.clear.ensures c.args.out.now (omega (arith, w.if-bytes-out.false)) (w.answer-is ∙ w.refuse-answer.ensures) w.out-is
+  ]
