@@ -13,19 +13,13 @@ use Rattle.pair_lay.proofs.Fours.{Ran_from, Ran_coded, Ran_four}
 use Rattle.pair_lay.proofs.lay_fours.Goals as goal
 use Rattle.pair_lay.proofs.lay_fours.Goals.{After-mark-arg-1, After-mark-arg-in-loop-at-1, After-mark-arg-in-loop-at-2-1, After-mark-arg-in-loop-at-3-1, After-struct_known-in-loop-at-2-1, After-struct_known-in-loop-at-3-1, After-struct_known-in-loop-at-4-1, After-struct_known-in-loop-at-5-1, In-loop-at}
 
--- from the end of a turn: where the four codes were found, and where the turn began
-abbrev found : tie.After-struct-known6 invariant-loop decreases-loop → tie.Else1 invariant-loop decreases-loop
-found c =
-    let three = c.before.before.before.before.before in
-    let one = at-slice-known2 (at-slice-known3 three) in
-    (at-if2 one).before.before.before.before
-
-abbrev begun : tie.After-struct-known6 invariant-loop decreases-loop → tie.In-loop invariant-loop decreases-loop
-begun c = (found c).before.before.before
+-- in a turn: four bytes are left of the block
+four-left-In-loop-at : (c : In-loop-at) → c.loop-at.at + at_once ≤ c.args.w.end
+four-left-In-loop-at c = omega (arith, c.loop-at-test.true, c.before_last-upto.ensures)
 
 -- in a turn: four bytes are left of the block
-four-left : (c : In-loop-at) → c.loop-at.at + at_once ≤ c.args.w.end
-four-left c = omega (arith, c.loop-at-test.true, c.before_last-upto.ensures)
+four-left-After-struct_known-in-loop-at-5-1 : (c : After-struct_known-in-loop-at-5-1) → c.loop-at.at + at_once ≤ c.args.w.end
+four-left-After-struct_known-in-loop-at-5-1 c = omega (arith, c.loop-at-test.true, c.before_last-upto.ensures)
 
 -- the place is a small number
 small-After-struct_known-in-loop-at-2-1 : (c : After-struct_known-in-loop-at-2-1) → c.loop-at.place < 2 ^ 28
@@ -38,6 +32,14 @@ small-After-struct_known-in-loop-at-3-1 c = omega (arith, c.loop-at.invariant.on
 -- the place is a small number
 small-After-struct_known-in-loop-at-4-1 : (c : After-struct_known-in-loop-at-4-1) → c.loop-at.place < 2 ^ 28
 small-After-struct_known-in-loop-at-4-1 c = omega (arith, c.loop-at.invariant.on, largest_coded)
+
+-- the place is a small number
+small-After-struct_known-in-loop-at-5-1 : (c : After-struct_known-in-loop-at-5-1) → c.loop-at.place < 2 ^ 28
+small-After-struct_known-in-loop-at-5-1 c = omega (arith, c.loop-at.invariant.on, largest_coded)
+
+-- past the first test: they are four codes
+led-After-struct_known-in-loop-at-5-1 : (c : After-struct_known-in-loop-at-5-1) → Leading c.args.payload.now c.loop-at.at c.four_at-four.result.first c.four_at-four.result.second c.four_at-four.result.third c.four_at-four.result.fourth
+led-After-struct_known-in-loop-at-5-1 c = c.four_at-four.ensures (omega (arith, c.if-four-ne0.false))
 
 -- past the first test: they are four codes
 led-After-struct_known-in-loop-at-2-1 : (c : After-struct_known-in-loop-at-2-1) → Leading c.args.payload.now c.loop-at.at c.four_at-four.result.first c.four_at-four.result.second c.four_at-four.result.third c.four_at-four.result.fourth
@@ -74,6 +76,16 @@ strides-After-struct_known-in-loop-at-3-1 c =
 strides-After-struct_known-in-loop-at-4-1 : (c : After-struct_known-in-loop-at-4-1) → (c.four_at-four.result.first ≤ one_group) × ((c.four_at-four.result.second ≤ one_group) × ((c.four_at-four.result.third ≤ one_group) × (c.four_at-four.result.fourth ≤ one_group)))
 strides-After-struct_known-in-loop-at-4-1 c =
     let k = led-After-struct_known-in-loop-at-4-1 c in (
+      omega (arith, k.one.is, k.one.small),
+      (
+        omega (arith, k.two.is, k.two.small),
+        (omega (arith, k.three.is, k.three.small), omega (arith, k.four.is, k.four.small)),
+      ),
+    )
+
+strides-After-struct_known-in-loop-at-5-1 : (c : After-struct_known-in-loop-at-5-1) → (c.four_at-four.result.first ≤ one_group) × ((c.four_at-four.result.second ≤ one_group) × ((c.four_at-four.result.third ≤ one_group) × (c.four_at-four.result.fourth ≤ one_group)))
+strides-After-struct_known-in-loop-at-5-1 c =
+    let k = led-After-struct_known-in-loop-at-5-1 c in (
       omega (arith, k.one.is, k.one.small),
       (
         omega (arith, k.two.is, k.two.small),
@@ -122,19 +134,19 @@ sized-After-mark-arg-in-loop-at-3-1 c = omega arith
 sized-After-struct_known-in-loop-at-5-1 : (c : After-struct_known-in-loop-at-5-1) → length c.mark.new.words ≡ length c.loop-at.words
 sized-After-struct_known-in-loop-at-5-1 c = omega arith
 
-sized-2-After-mark-arg-in-loop-at-2-1 : (c : After-mark-arg-in-loop-at-2-1) → length c.mark-in-loop-at.new.words ≡ length c.mark.last.0
+sized-2-After-mark-arg-in-loop-at-2-1 : (c : After-mark-arg-in-loop-at-2-1) → length c.mark-in-loop-at.new.words ≡ length c.mark.new.words
 sized-2-After-mark-arg-in-loop-at-2-1 c = omega arith
 
-sized-2-After-mark-arg-in-loop-at-3-1 : (c : After-mark-arg-in-loop-at-3-1) → length c.mark-in-loop-at.new.words ≡ length c.mark.last.0
+sized-2-After-mark-arg-in-loop-at-3-1 : (c : After-mark-arg-in-loop-at-3-1) → length c.mark-in-loop-at.new.words ≡ length c.mark.new.words
 sized-2-After-mark-arg-in-loop-at-3-1 c = omega arith
 
-sized-2-After-struct_known-in-loop-at-5-1 : (c : After-struct_known-in-loop-at-5-1) → length c.mark-in-loop-at.new.words ≡ length c.mark.last.0
+sized-2-After-struct_known-in-loop-at-5-1 : (c : After-struct_known-in-loop-at-5-1) → length c.mark-in-loop-at.new.words ≡ length c.mark.new.words
 sized-2-After-struct_known-in-loop-at-5-1 c = omega arith
 
-sized-3-After-mark-arg-in-loop-at-3-1 : (c : After-mark-arg-in-loop-at-3-1) → length c.mark-in-loop-at-2.new.words ≡ length c.mark-in-loop-at.last.0
+sized-3-After-mark-arg-in-loop-at-3-1 : (c : After-mark-arg-in-loop-at-3-1) → length c.mark-in-loop-at-2.new.words ≡ length c.mark-in-loop-at.new.words
 sized-3-After-mark-arg-in-loop-at-3-1 c = omega arith
 
-sized-3-After-struct_known-in-loop-at-5-1 : (c : After-struct_known-in-loop-at-5-1) → length c.mark-in-loop-at-2.new.words ≡ length c.mark-in-loop-at.last.0
+sized-3-After-struct_known-in-loop-at-5-1 : (c : After-struct_known-in-loop-at-5-1) → length c.mark-in-loop-at-2.new.words ≡ length c.mark-in-loop-at.new.words
 sized-3-After-struct_known-in-loop-at-5-1 c = omega arith
 
 sized-4 : (c : After-struct_known-in-loop-at-5-1) → length c.mark-in-loop-at-3.new.words ≡ length c.mark-in-loop-at-2.new.words
@@ -153,7 +165,7 @@ pub loop-at-init : goal.loop-at-init
 loop-at-init c = Ran_from c.args.payload.now c.args.w c.args.from c.args.words.now c.requires.placed.0 c.requires.placed.1.0 c.requires.placed.1.1 c.requires.from_le_step.0
 
 pub four_at-four-requires : goal.four_at-four-requires
-four_at-four-requires c = omega (arith, four-left c, (c.loop-at.invariant.placed.on c.loop-at.invariant.on).within)
+four_at-four-requires c = omega (arith, four-left-In-loop-at c, (c.loop-at.invariant.placed.on c.loop-at.invariant.on).within)
 
 pub overflow_add-from : goal.overflow_add-from
 overflow_add-from c = omega (arith, c.loop-at.invariant.on, largest_coded)
@@ -204,24 +216,19 @@ mark-requires-in-loop-at-3 c = let w = within-After-mark-arg-in-loop-at-3-1 c in
     (omega (arith, w.0, sized-After-mark-arg-in-loop-at-3-1 c, sized-2-After-mark-arg-in-loop-at-3-1 c, sized-3-After-mark-arg-in-loop-at-3-1 c), omega (arith, w.1, sized-After-mark-arg-in-loop-at-3-1 c, sized-2-After-mark-arg-in-loop-at-3-1 c, sized-3-After-mark-arg-in-loop-at-3-1 c))
 
 pub overflow_add-place : goal.overflow_add-place
-overflow_add-place c = let k = strides (found c) in omega (arith, small (begun c), k.0, k.1.0, k.1.1.0, k.1.1.1)
+overflow_add-place c = let k = strides-After-struct_known-in-loop-at-5-1 c in omega (arith, small-After-struct_known-in-loop-at-5-1 c, k.0, k.1.0, k.1.1.0, k.1.1.1)
 
 pub overflow_add-at : goal.overflow_add-at
-overflow_add-at c = let i = (begun c).before.loop.invariant in
-    let o = i.placed.on i.on in
-    omega (arith, four-left (begun c), o.within, o.few)
+overflow_add-at c = let o = c.loop-at.invariant.placed.on c.loop-at.invariant.on in
+    omega (arith, four-left-After-struct_known-in-loop-at-5-1 c, o.within, o.few)
 
 pub loop-at-smaller : goal.loop-at-smaller
-loop-at-smaller c = omega (arith, (begun c).loop-test.true)
+loop-at-smaller c = omega (arith, c.loop-at-test.true)
 
 pub loop-at-preserved : goal.loop-at-preserved
-loop-at-preserved c = let d = (begun c).before in
-    let a = (at-start d.before).args in
-    let l = d.loop in
-    let r = (found c).before.before.four-at.result in
-    Ran_four a.payload.now a.w a.from a.words.now (λ i. omega (arith, d.before.before.before.shared-slice-known.given i))
-    l.words l.place l.at r.first r.second r.third r.fourth l.inv (four-left (begun c))
-    (omega (arith, (within-After-struct_known-in-loop-at-5-1 c).0, l.inv.size)) (led (found c)) _ (sized-After-struct_known-in-loop-at-5-1 c) c.mark.ensures
+loop-at-preserved c = Ran_four c.args.payload.now c.args.w c.args.from c.args.words.now (λ i. omega (arith, c.type_inv.payload i))
+    c.loop-at.words c.loop-at.place c.loop-at.at c.four_at-four.result.first c.four_at-four.result.second c.four_at-four.result.third c.four_at-four.result.fourth c.loop-at.invariant (four-left-After-struct_known-in-loop-at-5-1 c)
+    (omega (arith, (within-After-struct_known-in-loop-at-5-1 c).0, c.loop-at.invariant.size)) (led-After-struct_known-in-loop-at-5-1 c) _ (sized-After-struct_known-in-loop-at-5-1 c) c.mark.ensures
     _ (sized-2-After-struct_known-in-loop-at-5-1 c) c.mark-in-loop-at.ensures _ (sized-3-After-struct_known-in-loop-at-5-1 c) c.mark-in-loop-at-2.ensures
     _ (sized-4 c) c.mark-in-loop-at-3.ensures
 

@@ -42,7 +42,7 @@ pub more-b-requires : goal.more-b-requires
 more-b-requires c = record { stands = second_Stands c.requires.ready.0 c.turns-t.ensures _ _ refl c.passed-2.ensures; steps_nonzero = c.requires.small.0.1 }
 
 pub offset_bounds-left-i : goal.offset_bounds-left-i
-offset_bounds-left-i c = omega (arith, at_first-After-slice_known-6-1 c, c.left2.given, c.requires.small.0.0.1)
+offset_bounds-left-i c = omega (arith, at_first-After-slice_known-6-1 c, c.left-1.given, c.requires.small.0.0.1)
 
 pub bounds-left-i : goal.bounds-left-i
 bounds-left-i c = at_first-After-slice_known-7-1-unread c
@@ -51,7 +51,7 @@ pub overflow_cast-left : goal.overflow_cast-left
 overflow_cast-left c = omega (arith, c.type_inv.left c.more-a.result.at)
 
 pub offset_bounds-right-j : goal.offset_bounds-right-j
-offset_bounds-right-j c = omega (arith, at_second-After-slice_known-7-1 c, c.right2.given, c.requires.small.0.1.1)
+offset_bounds-right-j c = omega (arith, at_second-After-slice_known-7-1 c, c.right-1.given, c.requires.small.0.1.1)
 
 pub bounds-right-j : goal.bounds-right-j
 bounds-right-j c = at_second-After-slice_known-8-1-unread c

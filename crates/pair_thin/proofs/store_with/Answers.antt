@@ -33,8 +33,8 @@ pub round-m-requires : goal.round-m-requires
 round-m-requires c = record { ready = (c.loop-m.invariant.0.ready, omega (arith, c.no_step-end.ensures)); small = (((omega (arith, c.loop-m.invariant.0.first, c.requires.small), omega (arith, c.loop-m.invariant.0.first, c.requires.small)), (omega (arith, c.loop-m.invariant.0.second, c.requires.small), omega (arith, c.loop-m.invariant.0.second, c.requires.small))), omega (arith, c.loop-m.invariant.0.first, c.loop-m.invariant.0.third, c.requires.small)) }
 
 pub slice_bounds-put-end-in-loop-m : goal.slice_bounds-put-end-in-loop-m
-slice_bounds-put-end-in-loop-m c = let n : c.round-m.result.kept ≡ length (take c.round-m.result.kept c.round-m.last.1.1.1.1.0) =
-    omega (arith, c.round-m.ensures.within, length-take c.round-m.result.kept c.round-m.last.1.1.1.1.0) in
+slice_bounds-put-end-in-loop-m c = let n : c.round-m.result.kept ≡ length (take c.round-m.result.kept c.round-m.new.kept) =
+    omega (arith, c.round-m.ensures.within, length-take c.round-m.result.kept c.round-m.new.kept) in
     n
 
 pub overflow_add-n : goal.overflow_add-n
@@ -47,7 +47,7 @@ loop-m-smaller c = c.round-m.ensures.less
 pub loop-m-preserved : goal.loop-m-preserved
 loop-m-preserved c = (
       Rounds_turn c.round-m.ensures c.loop-m.invariant.0 c.left-in-loop-m-1.given c.right-in-loop-m-1.given c.kept-1.given,
-      Keeping_run c.loop-m.invariant.1 (take c.round-m.result.kept c.round-m.last.1.1.1.1.0) _ c.round-m.ensures.is (omega (arith, c.round-m.ensures.within, length-take c.round-m.result.kept c.round-m.last.1.1.1.1.0)) c.steps-1.given c.put.ensures,
+      Keeping_run c.loop-m.invariant.1 (take c.round-m.result.kept c.round-m.new.kept) _ c.round-m.ensures.is (omega (arith, c.round-m.ensures.within, length-take c.round-m.result.kept c.round-m.new.kept)) c.steps-1.given c.put.ensures,
     )
 
 pub shape_of-steps : goal.shape_of-steps
