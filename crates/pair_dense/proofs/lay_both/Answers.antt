@@ -9,7 +9,7 @@ pub lay_window-b-requires : goal.lay_window-b-requires
 lay_window-b-requires c = record { stands = (c.requires.together.0.second.stands, omega (arith, c.requires.together.0.lower)); words_value = (c.requires.right_value.0, omega (arith, c.requires.right_value.1, c.requires.left_value.1.1)) }
 
 pub returns : goal.returns
-returns c = let same : length c.lay_window-a.last.1.1.0 ≡ length c.lay_window-b.last.1.1.0 =
+returns c = let same : length c.lay_window-a.new.words ≡ length c.lay_window-b.new.words =
     omega (arith, c.left-1.given, c.right-1.given, c.requires.right_value.1) in
     window_Passes c.requires.together.0 c.lay_window-a.ensures c.lay_window-b.ensures same c.lower.ensures
     (omega (arith, c.left-1.given, c.requires.left_value.1.0)) c.requires.together.1

@@ -37,7 +37,7 @@ loop-m-smaller c = c.lay_both-m.ensures.past
 pub loop-m-preserved : goal.loop-m-preserved
 loop-m-preserved c = (
       c.lay_both-m.ensures.together,
-      Storing_run c.loop-m.invariant.1 (steps_in c.args.op c.loop-m.m.next c.lay_both-m.last.1.0 c.lay_both-m.last.1.1.0) _ (c.lay_both-m.ensures.turn c.args.op) c.put_window-n.ensures.place c.put_window-n.ensures.stores,
+      Storing_run c.loop-m.invariant.1 (steps_in c.args.op c.loop-m.m.next c.lay_both-m.new.left c.lay_both-m.new.right) _ (c.lay_both-m.ensures.turn c.args.op) c.put_window-n.ensures.place c.put_window-n.ensures.stores,
     )
 
 pub shape_of-steps : goal.shape_of-steps
