@@ -83,9 +83,9 @@ module _ {X : Type 0} where
   get_or_here zero d e h = ap (λ (r : List X). get_or r 0 d) e
   get_or_here (suc i) d e h = absurd (omega arith)
 
-  pub get_d_past : {l : List X} {x : X} {xs : List X} (i : ℕ) (d : X) → l ≡ x ∷ xs → (i ≡ 0 → ⊥) → get_or l i d ≡ get_or xs (i - 1) d
-  get_d_past zero d e h = absurd (h refl)
-  get_d_past {l} {x} {xs} (suc i) d e h =
+  pub get_or_past : {l : List X} {x : X} {xs : List X} (i : ℕ) (d : X) → l ≡ x ∷ xs → (i ≡ 0 → ⊥) → get_or l i d ≡ get_or xs (i - 1) d
+  get_or_past zero d e h = absurd (h refl)
+  get_or_past {l} {x} {xs} (suc i) d e h =
       let q : i ≡ suc i - 1 = omega arith in
       ap (λ (r : List X). get_or r (suc i) d) e ∙ ap (λ (n : ℕ). get_or xs n d) q
 

@@ -30,22 +30,22 @@ sets_comm l a (x ∷ xs) b ys h =
 pub sets_front : (l vs : List ℕ) → length vs ≤ length l → sets l 0 vs ≡ vs ++ drop (length vs) l
 sets_front l vs h = let z : 0 + length vs ≡ length vs = omega arith in sets-eq vs l 0 (omega arith) ∙ ap (λ (k : ℕ). vs ++ drop k l) z
 
-get_d_sets_before : (l : List ℕ) (at : ℕ) (vs : List ℕ) (p : ℕ) → p < at → get_or (sets l at vs) p 0 ≡ get_or l p 0
-get_d_sets_before l at [] p h = refl
-get_d_sets_before l at (v ∷ vs) p h =
-    get_d_sets_before (set l at v) (suc at) vs p (omega arith) ∙ get_or-set_other l at p v 0 (λ e. omega arith)
+get_or_sets_before : (l : List ℕ) (at : ℕ) (vs : List ℕ) (p : ℕ) → p < at → get_or (sets l at vs) p 0 ≡ get_or l p 0
+get_or_sets_before l at [] p h = refl
+get_or_sets_before l at (v ∷ vs) p h =
+    get_or_sets_before (set l at v) (suc at) vs p (omega arith) ∙ get_or-set_other l at p v 0 (λ e. omega arith)
 
-pub get_d_sets : (l : List ℕ) (at : ℕ) (vs : List ℕ) (j : ℕ) → at + length vs ≤ length l → j < length vs → get_or (sets l at vs) (at + j) 0 ≡ get_or vs j 0
-get_d_sets l at [] j h g = absurd (omega arith)
-get_d_sets l at (v ∷ vs) zero h g =
+pub get_or_sets : (l : List ℕ) (at : ℕ) (vs : List ℕ) (j : ℕ) → at + length vs ≤ length l → j < length vs → get_or (sets l at vs) (at + j) 0 ≡ get_or vs j 0
+get_or_sets l at [] j h g = absurd (omega arith)
+get_or_sets l at (v ∷ vs) zero h g =
     let z : at + 0 ≡ at = omega arith in
     ap (λ (p : ℕ). get_or (sets (set l at v) (suc at) vs) p 0) z
-    ∙ get_d_sets_before (set l at v) (suc at) vs at (omega arith)
+    ∙ get_or_sets_before (set l at v) (suc at) vs at (omega arith)
     ∙ get_or-set_same l at v 0 (omega arith)
-get_d_sets l at (v ∷ vs) (suc j) h g =
+get_or_sets l at (v ∷ vs) (suc j) h g =
     let z : at + suc j ≡ suc at + j = omega arith in
     ap (λ (p : ℕ). get_or (sets (set l at v) (suc at) vs) p 0) z
-    ∙ get_d_sets (set l at v) (suc at) vs j (omega (arith, length-set l at v)) (omega arith)
+    ∙ get_or_sets (set l at v) (suc at) vs j (omega (arith, length-set l at v)) (omega arith)
 
 pub set-sets : (l : List ℕ) (at : ℕ) (vs : List ℕ) (j x : ℕ) → j < length vs → set (sets l at vs) (at + j) x ≡ sets l at (set vs j x)
 set-sets l at [] j x h = absurd (omega arith)

@@ -31,15 +31,15 @@ pub length_words : (k o : ℕ) (xs : List ℕ) → length (words_from k o xs) �
 length_words zero o xs = ap length (words_none o xs)
 length_words (suc k) o xs = ap length (words_cons k o xs) ∙ ap suc (length_words k (o + word_bits) xs)
 
-pub get_d_words : (k o : ℕ) (xs : List ℕ) (i : ℕ) → i < k → get_or (words_from k o xs) i 0 ≡ bits_of word_bits (o + word_bits * i) xs
-get_d_words zero o xs i h = absurd (omega arith)
-get_d_words (suc k) o xs zero h =
+pub get_or_words : (k o : ℕ) (xs : List ℕ) (i : ℕ) → i < k → get_or (words_from k o xs) i 0 ≡ bits_of word_bits (o + word_bits * i) xs
+get_or_words zero o xs i h = absurd (omega arith)
+get_or_words (suc k) o xs zero h =
     let q : o ≡ o + word_bits * 0 = omega arith in
     ap (λ (l : List ℕ). get_or l 0 0) (words_cons k o xs) ∙ ap (λ (p : ℕ). bits_of word_bits p xs) q
-get_d_words (suc k) o xs (suc i) h =
+get_or_words (suc k) o xs (suc i) h =
     let q : o + word_bits + word_bits * i ≡ o + word_bits * suc i = omega arith in
     ap (λ (l : List ℕ). get_or l (suc i) 0) (words_cons k o xs)
-    ∙ get_d_words k (o + word_bits) xs i (omega arith)
+    ∙ get_or_words k (o + word_bits) xs i (omega arith)
     ∙ ap (λ (p : ℕ). bits_of word_bits p xs) q
 
 -- a list of words that has them all
@@ -47,13 +47,13 @@ pub words_by_index : (k o : ℕ) (xs words : List ℕ) → length words ≡ k
     → ((i : ℕ) → i < k → get_or words i 0 ≡ bits_of word_bits (o + word_bits * i) xs) → words ≡ words_from k o xs
 words_by_index k o xs words n f =
     ext_get_or 0 words (words_from k o xs) (n ∙ sym (length_words k o xs))
-    (λ i h. f i (omega arith) ∙ sym (get_d_words k o xs i (omega arith)))
+    (λ i h. f i (omega arith) ∙ sym (get_or_words k o xs i (omega arith)))
 
 pub words_same : (k o : ℕ) (xs ys : List ℕ) → ((z : ℕ) → o ≤ z → z < o + word_bits * k → has z xs ≡ has z ys) → words_from k o xs ≡ words_from k o ys
 words_same k o xs ys f =
     words_by_index k o ys (words_from k o xs) (length_words k o xs)
     (λ i h.
-    get_d_words k o xs i h ∙ bits_of_same word_bits (o + word_bits * i) xs ys (λ z l g. f z (omega arith) (omega arith)))
+    get_or_words k o xs i h ∙ bits_of_same word_bits (o + word_bits * i) xs ys (λ z l g. f z (omega arith) (omega arith)))
 
 -- no step, no bit
 pub words_empty : (k o : ℕ) → words_from k o [] ≡ replicate k 0
@@ -83,5 +83,5 @@ words_append k o xs ys words words' e n f =
     words_by_index k o (xs ++ ys) words' n
     (λ i h.
     f i h
-    ∙ ap (λ (v : ℕ). bit_or v (bits_of word_bits (o + word_bits * i) ys)) (ap (λ (l : List ℕ). get_or l i 0) e ∙ get_d_words k o xs i h)
+    ∙ ap (λ (v : ℕ). bit_or v (bits_of word_bits (o + word_bits * i) ys)) (ap (λ (l : List ℕ). get_or l i 0) e ∙ get_or_words k o xs i h)
     ∙ bits_of-append word_bits (o + word_bits * i) xs ys)

@@ -29,8 +29,8 @@ get_or_here k o v zero d h = ap (λ (l : List ℕ). get_or l 0 d) (bits_odd k o 
 get_or_here k o v (suc j) d h = absurd (omega arith)
 
 -- the next bit is passed
-get_d_past : (k o v j d : ℕ) → v % 2 ≤ j → get_or (bits_from (suc k) o v) j d ≡ get_or (bits_from k (suc o) (v / 2)) (j - v % 2) d
-get_d_past k o v j d h = by_bit v (odd j h) even
+get_or_past : (k o v j d : ℕ) → v % 2 ≤ j → get_or (bits_from (suc k) o v) j d ≡ get_or (bits_from k (suc o) (v / 2)) (j - v % 2) d
+get_or_past k o v j d h = by_bit v (odd j h) even
   where
     even : (v % 2 ≡ 1 → ⊥) → get_or (bits_from (suc k) o v) j d ≡ get_or (bits_from k (suc o) (v / 2)) (j - v % 2) d
     even e =
@@ -59,7 +59,7 @@ module _ (i v j : ℕ) where
   kth_past h g =
       let q : byte_bits - i ≡ suc (byte_bits - (i + 1)) = omega arith in
       let r : i + 1 ≡ suc i = omega arith in
-      rw (q, r) (get_d_past (byte_bits - suc i) i v j byte_bits g)
+      rw (q, r) (get_or_past (byte_bits - suc i) i v j byte_bits g)
 
   pub kth_end : byte_bits ≤ i → kth_left i v j ≡ byte_bits
   kth_end h = let q : byte_bits - i ≡ 0 = omega arith in rw q (ap (λ (l : List ℕ). get_or l j byte_bits) (bits_none i v))
@@ -80,8 +80,8 @@ kth_most v j =
     ))
     (λ h. omega (arith, kth_start v j, get_or-eq_default bits byte_bits {n = j} h))
 
-pub get_d_bits : (o v j : ℕ) → j < length (bits_from byte_bits 0 v) → get_or (bits_from byte_bits o v) j 0 ≡ o + kth_one v j
-get_d_bits o v j h =
+pub get_or_bits : (o v j : ℕ) → j < length (bits_from byte_bits 0 v) → get_or (bits_from byte_bits o v) j 0 ≡ o + kth_one v j
+get_or_bits o v j h =
     let z : o ≡ o + 0 = omega arith in
     let bits : List ℕ = bits_from byte_bits 0 v in
     get_or_within (bits_from byte_bits o v) j 0 (o + byte_bits) (omega (arith, length_bits_moved byte_bits o v))

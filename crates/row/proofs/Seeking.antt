@@ -14,7 +14,7 @@ use Rattle.row.specs.Words.{word_bytes, word_bits}
 use Rattle.row.proofs.Bits.{length_bits_moved, length_bits_most, length_bits_wide}
 use Rattle.row.proofs.Row.{row_left, row_start, row_split, row_turn, row_end, length_row_moved}
 use Rattle.row.proofs.Words.{row_word}
-use Rattle.row.proofs.Places.{get_d_bits, below_whole, bound_within}
+use Rattle.row.proofs.Places.{get_or_bits, below_whole, bound_within}
 
 -- what stands at index `k` of xs stands at index `j` of ys
 pub record Seeking (xs : List ℕ) (k : ℕ) (ys : List ℕ) (j : ℕ) : Type 0 where
@@ -67,7 +67,7 @@ module _ {xs : List ℕ} {k : ℕ} (o : ℕ) (s : List ℕ) (i : ℕ) {j : ℕ} 
         let p : ℕ = o + byte_bits * i in
         sym
         (seeking_here g (bits_from byte_bits p b) (row_left o s (i + 1)) n (row_turn o s i b h e) (length_byte p b n l c) f
-        ∙ get_d_bits p b j (omega (arith, length_byte 0 b n l c)))
+        ∙ get_or_bits p b j (omega (arith, length_byte 0 b n l c)))
 
     pub Seeking_byte_past : n ≤ j → Seeking xs k (row_left o s (i + 1)) (j - n)
     Seeking_byte_past f =

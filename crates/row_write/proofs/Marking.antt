@@ -16,7 +16,7 @@ use Rattle.lists.proofs.Choice.{by_lt}
 use Rattle.lists.proofs.Parts.{drop_one}
 use Rattle.lists.proofs.Rising.{Rising-beyond, Rising_back, Rising-get_or_below, Rising-get_or_from}
 use Rattle.lists.proofs.Members.{has-past, has_below}
-use Rattle.lists.proofs.Stores.{get_d_sets, set-sets}
+use Rattle.lists.proofs.Stores.{get_or_sets, set-sets}
 use Rattle.lists.proofs.Bytes.{Bytes-sets}
 use Rattle.row.specs.Row.{byte_bits, bits_of, bytes_from, row_size, row_of}
 use Rattle.row_write.specs.Inside.Marks.{plus, place_of, bit_of, marked, Markable}
@@ -27,7 +27,7 @@ use Rattle.row.proofs.Written.{bits_of_same, bits_of_none, bits_of-cons, length-
 plus-sets : (l : List ℕ) (at : ℕ) (vs : List ℕ) (j x : ℕ) → at + length vs ≤ length l → j < length vs
     → plus (sets l at vs) (at + j) x ≡ sets l at (plus vs j x)
 plus-sets l at vs j x h g =
-    ap (λ (y : ℕ). set (sets l at vs) (at + j) (y + x)) (get_d_sets l at vs j h g) ∙ set-sets l at vs j (get_or vs j 0 + x) g
+    ap (λ (y : ℕ). set (sets l at vs) (at + j) (y + x)) (get_or_sets l at vs j h g) ∙ set-sets l at vs j (get_or vs j 0 + x) g
 
 plus_none : (l : List ℕ) (p : ℕ) → plus l p 0 ≡ l
 plus_none l p =

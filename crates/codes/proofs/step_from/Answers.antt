@@ -4,7 +4,7 @@ use mathlib.Core.Path.{◌≡◌, refl, sym, ap, ◌∙◌}
 use Prim.Native.Nat.{◌-◌, ◌≤◌, ◌<◌}
 use native.Mathlib.Omega.{arith}
 use lib.ListN.{length, get_or}
-use Rattle.lists.proofs.Parts.{get_or_here, get_d_past}
+use Rattle.lists.proofs.Parts.{get_or_here, get_or_past}
 use Rattle.codes.specs.Codes.{steps_from, list_of, Sound}
 use Rattle.codes.proofs.Turns.{steps_none}
 use Rattle.codes.proofs.step_from.Goals as goal
@@ -28,7 +28,7 @@ pub loop-at-preserved : goal.loop-at-preserved
 loop-at-preserved c = (
       c.next_step-c.ensures.within,
       c.next_step-c.ensures.sound,
-      c.loop-at.invariant.2 ∙ get_d_past c.loop-at.left 0 c.next_step-c.ensures.is c.if-left-eq0.false,
+      c.loop-at.invariant.2 ∙ get_or_past c.loop-at.left 0 c.next_step-c.ensures.is c.if-left-eq0.false,
       omega (arith, c.loop-at.invariant.3, ap length c.next_step-c.ensures.is, c.if-left-eq0.false),
     )
 

@@ -4,7 +4,7 @@ use mathlib.Core.Path.{◌≡◌, refl, sym, ap, ◌∙◌}
 use Prim.Native.Nat.{◌-◌, ◌≤◌, ◌<◌}
 use native.Mathlib.Omega.{arith}
 use lib.ListN.{length, get_or}
-use Rattle.lists.proofs.Parts.{get_or_here, get_d_past}
+use Rattle.lists.proofs.Parts.{get_or_here, get_or_past}
 use Rattle.codes.specs.Codes.{steps_from, list_of, Sound}
 use Rattle.codes.proofs.Turns.{steps_none}
 use Rattle.codes.proofs.step_from.Given as goal
