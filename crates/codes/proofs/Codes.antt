@@ -19,7 +19,8 @@ use Rattle.code.specs.declared.Flaw.{Flaw}
 use Rattle.code.specs.declared.Reading.{Reading}
 use Rattle.code.specs.declared.Reading.TheVariants.{Code, Bad}
 use Rattle.code.specs.Code.{code_values, code_of, code_size, read_at}
-use Rattle.code.specs.Code.Laws.{length_code, size_least, size_most, bytes_code, read_code, Read, read_sound}
+use Rattle.code.specs.Code.Read.{Read}
+use Rattle.code.proofs.Laws.{length_code, size_least, size_most, bytes_code, read_code, read_sound}
 use Rattle.codes.specs.Codes.{
   Values,
   all,

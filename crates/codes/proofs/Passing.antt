@@ -15,7 +15,7 @@ use Rattle.lists.proofs.Rising.{Rising-beyond}
 use Rattle.lists.proofs.Gaps.{length-from_gaps, Rising-from_gaps}
 use Rattle.lists.proofs.Below.{below-append}
 use Rattle.code.specs.Code.{code_values}
-use Rattle.code.specs.Code.Laws.{read_sound}
+use Rattle.code.proofs.Laws.{read_sound}
 use Rattle.code_stretch.specs.Runs.{Run, sum_of, Passed}
 use Rattle.codes.specs.Codes.{steps_from, list_of, tally_of, Sound}
 use Rattle.codes.proofs.Codes.{Read_passes, Rising_steps}

@@ -12,7 +12,8 @@ use Rattle.lists.proofs.Rising.{Rising-beyond}
 use Rattle.code.specs.declared.Flaw.{Flaw}
 use Rattle.code.specs.declared.Reading.TheVariants.{Code, Bad}
 use Rattle.code.specs.Code.{read_at}
-use Rattle.code.specs.Code.Laws.{Read, read_sound}
+use Rattle.code.specs.Code.Read.{Read}
+use Rattle.code.proofs.Laws.{read_sound}
 use Rattle.codes.specs.declared.Tally.TheVariants.{Steps, Wrong}
 use Rattle.codes.specs.Codes.{Values, all, bad, on_top, steps_from, list_of, tally_of, Sound}
 use Rattle.codes.specs.Inside.Turn.{Turn}

@@ -14,7 +14,7 @@ use Rattle.lists.proofs.Rising.{Rising-beyond, Rising_front, Rising_back, beyond
 use Rattle.lists.proofs.Parts.{drop_one, length_part, part-drop}
 use Rattle.lists.proofs.Stores.{Storing}
 use Rattle.code.specs.Code.{one_group, code_values, code_of}
-use Rattle.code.specs.Code.Laws.{code_single}
+use Rattle.code.proofs.Laws.{code_single}
 use Rattle.codes.specs.Codes.{codes_for}
 use Rattle.codes_write.specs.Inside.Groups.{Near}
 use Rattle.codes.proofs.Codes.{codes_nil, codes_cons}

@@ -14,7 +14,8 @@ use Rattle.rules.specs.Limits.{no_step}
 use Rattle.code.specs.declared.Flaw.{Flaw}
 use Rattle.code.specs.declared.Reading.TheVariants.{Code, Bad}
 use Rattle.code.specs.Code.{read_at}
-use Rattle.code.specs.Code.Laws.{Read, read_sound}
+use Rattle.code.specs.Code.Read.{Read}
+use Rattle.code.proofs.Laws.{read_sound}
 use Rattle.codes.specs.Codes.{Values, all, bad, on_top, values_from, as_steps, steps_from, list_of}
 use Rattle.codes.proofs.Codes.{values_back, bad_all, values_sound, steps_bad, steps_more}
 use Rattle.image_walk.specs.declared.Walk.{Walk}

@@ -12,7 +12,7 @@ use Rattle.rules.specs.Numbers.{number_at}
 use Rattle.rules.proofs.Numbers.{number_four}
 use Rattle.code.specs.declared.Reading.TheVariants.{Code}
 use Rattle.code.specs.Code.{one_group, flag, code_of, code_size}
-use Rattle.code.specs.Code.Laws.{code_single, length_code, read_code}
+use Rattle.code.proofs.Laws.{code_single, length_code, read_code}
 use Rattle.row.specs.Words.{word_bits}
 use Rattle.pair_window.specs.Window.{Adds}
 use Rattle.image_walk.specs.declared.Walk.{Walk}

@@ -13,7 +13,7 @@ use Rattle.lists.proofs.Ranks.{past_next}
 use Rattle.rules.specs.Sizes.{entry_size, work_for}
 use Rattle.rules.specs.Listed.{Listed}
 use Rattle.code.specs.Code.{code_size}
-use Rattle.code.specs.Code.Laws.{size_most}
+use Rattle.code.proofs.Laws.{size_most}
 use Rattle.row.specs.Row.{byte_bits}
 use Rattle.plan.specs.declared.Turn.{Turn}
 use Rattle.plan.specs.Inside.Ahead.{most_ahead, row_bits, turned, codes_at, reach_at, row_at}

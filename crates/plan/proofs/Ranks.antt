@@ -15,7 +15,7 @@ use Rattle.rules.specs.Limits.Laws.{largest_coded, most_counted}
 use Rattle.rules.specs.Sizes.{entry_size}
 use Rattle.rules.specs.Listed.{Listed}
 use Rattle.code.specs.Code.{code_size}
-use Rattle.code.specs.Code.Laws.{size_most}
+use Rattle.code.proofs.Laws.{size_most}
 use Rattle.row.specs.Row.{byte_bits, row_size}
 use Rattle.plan.specs.Inside.Ahead.{most_ahead, Ahead, grown, ahead_of, ahead_at, bytes_at, codes_at, reach_at, row_at}
 use Rattle.plan.specs.Inside.Work.{GoesOn}

@@ -4,7 +4,7 @@ use native.Mathlib.Omega.{arith}
 use native.Mathlib.Numerals.{add-one, add-two, add-three}
 use lib.ListN.{length-set}
 use Rattle.code.specs.Code.Inside.{code_three_bytes, code_four_bytes, size_three, size_four}
-use Rattle.code.specs.Code.Laws.{length_code}
+use Rattle.code.proofs.Laws.{length_code}
 use Rattle.code.proofs.put.Goals as goal
 
 pub bounds-out-at : goal.bounds-out-at

@@ -9,7 +9,7 @@ use lib.Seq.{sets, set-set}
 use Rattle.lists.proofs.Choice.{by_lt}
 use Rattle.code.specs.Code.{one_group, two_groups, flag, code_of, code_size}
 use Rattle.code.specs.Code.Inside.{code_one_byte, code_two_bytes, size_one, size_two}
-use Rattle.code.specs.Code.Laws.{length_code}
+use Rattle.code.proofs.Laws.{length_code}
 use Rattle.code.proofs.put_short.Goals as goal
 use Rattle.code.proofs.put_short.Goals.{After-some}
 

@@ -39,20 +39,28 @@ module _ (x : ℕ) where
       ∙ pick_no _ _ _ (le-ltb x three_groups g)
 
   pub size_one : x < one_group → code_size x ≡ 1
-  unfolding code_size
-  size_one h = ap length (code_one_byte h)
+  unfolding code_size code_of
+  size_one h = ap length (pick_yes _ _ _ (lt-ltb x one_group h))
 
   pub size_two : one_group ≤ x → x < two_groups → code_size x ≡ 2
-  unfolding code_size
-  size_two g h = ap length (code_two_bytes g h)
+  unfolding code_size code_of
+  size_two g h = ap length (pick_no _ _ _ (le-ltb x one_group g) ∙ pick_yes _ _ _ (lt-ltb x two_groups h))
 
   pub size_three : two_groups ≤ x → x < three_groups → code_size x ≡ 3
-  unfolding code_size
-  size_three g h = ap length (code_three_bytes g h)
+  unfolding code_size code_of
+  size_three g h =
+      ap length
+      (pick_no _ _ _ (le-ltb x one_group (omega arith))
+      ∙ pick_no _ _ _ (le-ltb x two_groups g)
+      ∙ pick_yes _ _ _ (lt-ltb x three_groups h))
 
   pub size_four : three_groups ≤ x → code_size x ≡ 4
-  unfolding code_size
-  size_four g = ap length (code_four_bytes g)
+  unfolding code_size code_of
+  size_four g =
+      ap length
+      (pick_no _ _ _ (le-ltb x one_group (omega arith))
+      ∙ pick_no _ _ _ (le-ltb x two_groups (omega arith))
+      ∙ pick_no _ _ _ (le-ltb x three_groups g))
 
 -- ---- what is read, byte by byte
 

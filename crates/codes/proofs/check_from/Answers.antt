@@ -6,7 +6,8 @@ use native.Mathlib.Omega.{arith}
 use lib.ListN.{length}
 use Rattle.code.specs.declared.Reading.TheVariants.{Code}
 use Rattle.code.specs.Code.{code_values, read_at}
-use Rattle.code.specs.Code.Laws.{Read, read_sound}
+use Rattle.code.specs.Code.Read.{Read}
+use Rattle.code.proofs.Laws.{read_sound}
 use Rattle.codes.specs.Codes.{steps_from, tally_of}
 use Rattle.codes.proofs.Codes.{Read_passes}
 use Rattle.codes.proofs.Turns.{tally_more, tally_bad, tally_end}

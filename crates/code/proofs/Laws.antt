@@ -26,7 +26,8 @@ use Rattle.code.specs.Code.Inside.{
   read_long,
   read_on,
 }
-use Rattle.code.specs.Code.Groups.{
+use Rattle.code.specs.Code.Read.{Read}
+use Rattle.code.proofs.Groups.{
   by_size,
   flags,
   flags_none,
@@ -100,13 +101,6 @@ pub bad_no_code : (s : List ℕ) (at : ℕ) (w : Flaw) → read_at s at ≡ Bad 
 bad_no_code s at w b x rest l e = bad_code_lem (sym b ∙ read_code s at x rest l e)
 
 -- ---- what is read was written
-
--- a value was read at `at`, and the next code stands at `n`
-pub record Read (s : List ℕ) (at x n : ℕ) : Type 0 where
-  pub small : x < code_values
-  pub after : n ≡ at + code_size x
-  pub within : n ≤ length s
-  pub bytes : drop at s ≡ code_of x ++ drop n s
 
 -- from `at` to `p` stand `k` bytes with the flag, whose groups are worth `h`
 record Passed (s : List ℕ) (at k p h : ℕ) : Type 0 where
