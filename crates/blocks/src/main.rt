@@ -2,9 +2,9 @@
 
 #![tactic(auto)]
 
-use libc::STDIN_FILENO;
+use std::io;
 
 // Lists the image on standard input.
-fn main() {
-    blocks_print::run(STDIN_FILENO);
+fn main(rt: HostRuntime) -> io::Result<()> {
+    blocks_print::run(rt.alloc(), rt.stdin(), &mut io::writer(&rt))
 }

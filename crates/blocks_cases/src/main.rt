@@ -2,28 +2,22 @@
 
 #![tactic(auto)]
 
-// Lists the image of the file that an argument names.
-fn list_file(i: usize) {
-    let mut path = io::buffer();
-    let length = os::arg(i, &mut path);
-    if os::errno() != 0 {
-        return;
+use std::fs::File;
+use std::rt::Files;
+use std::{env, io};
+
+// Lists the image of the file that an argument names, or says why the file cannot be opened.
+fn list_file<R: Files + Print + Eprint + AllocGlobal>(rt: &R, path: &str) -> io::Result<()> {
+    match File::open(rt, path) {
+        Ok(file) => blocks_print::run(rt.alloc(), file, &mut io::writer(rt)),
+        Err(e) => eprintln!(rt; "{path}: {e}"),
     }
-    let fd = os::open_read(&path[..length]);
-    if fd < 0 {
-        os::fail(&path[..length]);
-        return;
-    }
-    blocks_print::run(fd);
-    libc::close(fd);
 }
 
 // Lists the image of each file.
-fn main() {
-    let n = os::arg_count();
-    let mut i: usize = 1;
-    while i < n {
-        list_file(i);
-        i += 1;
+fn main(rt: HostRuntime) -> io::Result<()> {
+    for path in env::args(&rt)?.skip(1) {
+        list_file(&rt, path.as_str())?;
     }
+    Ok(())
 }

@@ -2,104 +2,122 @@
 
 #![tactic(auto)]
 
-ghost use Rattle.std.specs.Prelude.{◌≡◌};
+ghost use Rattle.std.specs.Prelude.{◌≡◌, ◌+◌, List, ℕ, OnOk, IfSome, take};
+ghost use Rattle.std.specs.Io.KnownBytes.{Appends};
 ghost use Rattle.rules.specs.Numbers.{number_at};
 ghost use Rattle.image.specs.Verdict.{verdict};
 ghost use Rattle.image.specs.Taken.{Takes};
+ghost use Rattle.blocks_print.specs.Text.{longest, another, word_of, line_text, lines_text, first_line, refusal_line, listing, report};
 
 use blocks_lines::{Contents, Line};
-use libc::STDOUT_FILENO;
 use rules::Refusal;
+use std::alloc::Global;
+use std::io;
+use std::io::{Read, Write};
 
 // Document 01: the longest input that is read, in bytes.
 const LONGEST: usize = 65536;
 
 // Prints a number with a space before it.
-pub fn another(x: usize) {
-    io::write_all(STDOUT_FILENO, b" ");
-    io::print_decimal(STDOUT_FILENO, x as u64);
+pub fn another<W: Write>(out: &mut W, x: usize) -> io::Result<()>
+    ensures { OnOk result (Appends (W.contents out.old) (W.contents out.new) (another x)) }
+{
+    write!(out, " {x}")
+}
+
+// The word of a kind of block, with a space before it.
+fn word_of(kind: usize) -> &'static [u8]
+    ensures { result.now ≡ word_of kind }
+{
+    if kind == rules::CODES {
+        b" vbyte"
+    } else {
+        b" bits"
+    }
 }
 
 // Prints the line of a block.
-fn print_line(l: Line) {
-    io::print_decimal(STDOUT_FILENO, l.number as u64);
-    if l.kind == rules::CODES {
-        io::write_all(STDOUT_FILENO, b" vbyte");
-    } else {
-        io::write_all(STDOUT_FILENO, b" bits");
-    }
-    another(l.first);
-    another(l.last);
-    another(l.steps);
-    another(l.bytes);
-    io::write_all(STDOUT_FILENO, b"\n");
+fn print_line<W: Write>(out: &mut W, l: Line) -> io::Result<()>
+    ensures { OnOk result (Appends (W.contents out.old) (W.contents out.new) (line_text l)) }
+{
+    let number = l.number;
+    write!(out, "{number}")?;
+    out.write_all(word_of(l.kind))?;
+    another(out, l.first)?;
+    another(out, l.last)?;
+    another(out, l.steps)?;
+    another(out, l.bytes)?;
+    out.write_all(b"\n")
 }
 
 // Prints the lines of all blocks.
-fn print_lines(image: &[u8], blocks: usize)
+fn print_lines<W: Write>(out: &mut W, image: &[u8], blocks: usize) -> io::Result<()>
     requires { Takes (verdict image.now) × (blocks ≡ number_at image.now 0) }
+    ensures { OnOk result (Appends (W.contents out.old) (W.contents out.new) (lines_text image.now blocks)) }
 {
     let mut i: usize = 0;
     while i < blocks {
-        print_line(blocks_lines::line_at(image, i));
+        print_line(out, blocks_lines::line_at(image, i))?;
         i += 1;
     }
+    Ok(())
 }
 
 // Prints the first line of an image that is accepted.
-fn print_contents(blocks: usize, steps: usize, bytes: usize) {
-    io::write_all(STDOUT_FILENO, b"blocks");
-    another(blocks);
-    io::write_all(STDOUT_FILENO, b" steps");
-    another(steps);
-    io::write_all(STDOUT_FILENO, b" bytes");
-    another(bytes);
-    io::write_all(STDOUT_FILENO, b"\n");
+fn print_contents<W: Write>(
+    out: &mut W,
+    blocks: usize,
+    steps: usize,
+    bytes: usize,
+) -> io::Result<()>
+    ensures { OnOk result (Appends (W.contents out.old) (W.contents out.new) (first_line blocks steps bytes)) }
+{
+    out.write_all(b"blocks")?;
+    another(out, blocks)?;
+    out.write_all(b" steps")?;
+    another(out, steps)?;
+    out.write_all(b" bytes")?;
+    another(out, bytes)?;
+    out.write_all(b"\n")
 }
 
 // Prints the only line of an image that is refused.
-pub fn print_refusal(r: Refusal) {
-    io::write_all(STDOUT_FILENO, b"refused");
-    another(r.number as usize);
-    io::write_all(STDOUT_FILENO, b" at");
-    another(r.place as usize);
-    io::write_all(STDOUT_FILENO, b"\n");
+pub fn print_refusal<W: Write>(out: &mut W, r: Refusal) -> io::Result<()>
+    ensures { OnOk result (Appends (W.contents out.old) (W.contents out.new) (refusal_line r)) }
+{
+    out.write_all(b"refused")?;
+    another(out, r.number as usize)?;
+    out.write_all(b" at")?;
+    another(out, r.place as usize)?;
+    out.write_all(b"\n")
 }
 
 // Prints the list of an image.
-pub fn list(image: &[u8]) {
-    let c = blocks_lines::contents_of(image);
-    match c {
+pub fn list<W: Write>(out: &mut W, image: &[u8]) -> io::Result<()>
+    ensures { OnOk result (Appends (W.contents out.old) (W.contents out.new) (listing image.now)) }
+{
+    match blocks_lines::contents_of(image) {
         Contents::Holds {
             blocks,
             steps,
             bytes,
         } => {
-            print_contents(blocks, steps, bytes);
-            print_lines(image, blocks);
+            print_contents(out, blocks, steps, bytes)?;
+            print_lines(out, image, blocks)
         }
-        Contents::Refused(r) => {
-            print_refusal(r);
-        }
+        Contents::Refused(r) => print_refusal(out, r),
     }
 }
 
-// Whether a byte is left to read.
-fn has_more(fd: i32) -> bool {
-    let mut one = [0u8; 1];
-    let n = io::read_full(fd, &mut one);
-    n > 0
-}
-
-// Lists the image that a descriptor gives.
-pub fn run(fd: i32) {
-    let mut buffer = io::large_buffer();
-    let n = io::read_full(fd, &mut buffer);
-    if n == LONGEST {
-        if has_more(fd) {
-            io::write_all(STDOUT_FILENO, b"too long\n");
-            return;
-        }
+// Lists the image that a reader gives. Of one that is too long it says so, and reads one byte past the longest.
+pub fn run<R: Read + Drop, W: Write>(alloc: Global, from: R, out: &mut W) -> io::Result<()>
+    ensures { OnOk result ((image : List ℕ) × Appends (W.contents out.old) (W.contents out.new) (report image)
+        × IfSome (R.remaining from) (λ xs. image ≡ take (longest + 1) xs)) }
+{
+    let mut image = Vec::with_capacity(alloc, LONGEST + 1)?;
+    from.take(LONGEST as u64 + 1).read_to_end(&mut image)?;
+    if image.len() > LONGEST {
+        return out.write_all(b"too long\n");
     }
-    list(&buffer[..n]);
+    list(out, &image)
 }

@@ -1,0 +1,5 @@
+-- `Listed` says what list stands for an image whose first line is known, `Lines` how the lines follow one another, and `Report` what is read
+-- and reported of an input.
+mod Lines
+mod Listed
+mod Report
