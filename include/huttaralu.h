@@ -2,7 +2,7 @@
  * Huttaralu: strictly increasing lists of steps (when is this place under water?) as small images,
  * and questions about them.
  *
- * Link libhuttaralu.a, which `rt staticlib huttaralu` makes. Of the C library it needs at most
+ * Link libhuttaralu.a, which `rt lib` in crates/huttaralu makes. Of the C library it needs at most
  * memset, memcpy and memmove.
  *
  * Numbers. A step is six minutes, 0 to HUTT_LARGEST_STEP. A list is strictly increasing and has 0 to

@@ -1,8 +1,7 @@
 //! Finds the static library that the crate binds, or has it made.
 //!
-//! `HUTTARALU_ARCHIVE`, if set, is a `libhuttaralu.a` that is ready. Otherwise `rt staticlib huttaralu`
-//! proves the library and makes it; that is for x86-64, and `host-archive` has the same program compiled for
-//! any other machine.
+//! `HUTTARALU_ARCHIVE`, if set, is a `libhuttaralu.a` that is ready. Otherwise `rt lib` proves the library
+//! and makes it. `rt` runs on x86-64 alone, and makes the library for x86-64 and for aarch64 under Linux.
 
 use std::env;
 use std::fs;
@@ -46,26 +45,54 @@ fn ready_archive(path: &Path) -> Result<PathBuf, String> {
 fn made_archive() -> Result<PathBuf, String> {
     let package = PathBuf::from(env::var_os("CARGO_MANIFEST_DIR").expect("cargo names the package's folder"));
     let root = package.join("../..");
-    for source in ["crates", "crates.txt", "include/huttaralu.h", "rust/huttaralu/host-archive"] {
-        println!("cargo::rerun-if-changed={}", root.join(source).display());
+    watch(&root)?;
+    let [processor, system] = ["CARGO_CFG_TARGET_ARCH", "CARGO_CFG_TARGET_OS"].map(variable);
+    let target = match (processor.as_str(), system.as_str()) {
+        ("x86_64", "linux") => "x86_64-unknown-linux-gnu",
+        ("aarch64", "linux") => "aarch64-unknown-linux-gnu",
+        _ => return Err(not_here(&format!("and not for {processor} under {system}"))),
+    };
+    if !variable("HOST").starts_with("x86_64") {
+        return Err(not_here("which runs on x86-64 alone"));
     }
     if Command::new("rt").arg("version").output().is_err() {
-        return Err(format!(
-            "the library is made by `rt staticlib huttaralu`, and there is no command `rt` on the PATH: \
-             install the Rattle toolchain, or set {READY} to a {ARCHIVE} that is ready"
-        ));
+        return Err(not_here("and there is no command `rt` on the PATH"));
     }
-    let out = env::var_os("OUT_DIR").expect("cargo names a folder to write to");
-    let archive = Path::new(&out).join(ARCHIVE);
-    if env::var("CARGO_CFG_TARGET_ARCH").as_deref() == Ok("x86_64") {
-        run(Command::new("rt").args(["staticlib", "huttaralu"]).current_dir(&root))?;
-        let made = root.join("target/staticlib").join(ARCHIVE);
-        fs::copy(&made, &archive).map_err(|error| format!("no library at {}: {error}", made.display()))?;
-    } else {
-        let target = env::var("TARGET").expect("cargo names the target");
-        run(Command::new(package.join("host-archive")).arg(&archive).arg(target).current_dir(&root))?;
-    }
+    let folder = root.join("crates/huttaralu");
+    run(Command::new("rt").args(["lib", "--target", target]).current_dir(&folder))?;
+    let made = folder.join("out").join(ARCHIVE);
+    let archive = Path::new(&variable("OUT_DIR")).join(ARCHIVE);
+    fs::copy(&made, &archive).map_err(|error| format!("no library at {}: {error}", made.display()))?;
     Ok(archive)
+}
+
+/// Has cargo watch what the library is made from, and not what `rt` keeps beside it.
+fn watch(root: &Path) -> Result<(), String> {
+    println!("cargo::rerun-if-changed={}", root.join("crates.txt").display());
+    let crates = root.join("crates");
+    let found =
+        fs::read_dir(&crates).map_err(|error| format!("no crates at {}: {error}", crates.display()))?;
+    for folder in found.flatten() {
+        for part in ["src", "specs", "proofs"].map(|part| folder.path().join(part)) {
+            if part.is_dir() {
+                println!("cargo::rerun-if-changed={}", part.display());
+            }
+        }
+    }
+    Ok(())
+}
+
+/// Why the library cannot be made here, and what to do.
+fn not_here(why: &str) -> String {
+    format!(
+        "the library is made by the Rattle toolchain's `rt lib`, {why}: \
+         make it on x86-64 Linux, for it or for aarch64, or set {READY} to a {ARCHIVE} that is ready"
+    )
+}
+
+/// What cargo says by a variable.
+fn variable(name: &str) -> String {
+    env::var(name).unwrap_or_else(|_| panic!("cargo sets {name}"))
 }
 
 /// Runs a command, and tells its last words if it fails.
