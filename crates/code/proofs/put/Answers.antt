@@ -18,9 +18,9 @@ bounds-out-at-then-x-lt-THREE_GROUPS-2 c = simp length-set (omega (arith, size_t
 
 pub returns-then-x-lt-THREE_GROUPS : goal.returns-then-x-lt-THREE_GROUPS
 returns-then-x-lt-THREE_GROUPS c = record {
-      place = omega (arith, size_three c.args.x (omega arith) (omega arith), length_code c.args.x);
-      stores = simp (code_three_bytes c.args.x (omega arith) (omega arith), add-one, add-two);
-    }
+  place = omega (arith, size_three c.args.x (omega arith) (omega arith), length_code c.args.x);
+  stores = simp (code_three_bytes c.args.x (omega arith) (omega arith), add-one, add-two);
+}
 
 pub bounds-out-at-2 : goal.bounds-out-at-2
 bounds-out-at-2 c = omega (arith, size_four c.args.x (omega arith))
@@ -36,6 +36,6 @@ bounds-out-at-5 c = simp length-set (omega (arith, size_four c.args.x (omega ari
 
 pub returns : goal.returns
 returns c = record {
-      place = omega (arith, size_four c.args.x (omega arith), length_code c.args.x);
-      stores = simp (code_four_bytes c.args.x (omega arith), add-one, add-two, add-three);
-    }
+  place = omega (arith, size_four c.args.x (omega arith), length_code c.args.x);
+  stores = simp (code_four_bytes c.args.x (omega arith), add-one, add-two, add-three);
+}

@@ -48,6 +48,6 @@ overflow_add-result c = omega (arith, size_is c)
 
 pub returns : goal.returns
 returns c = record {
-      place = omega (arith, size_is c, length_code c.args.x);
-      stores = stored_short c.args.x c.some.result c.requires.0 c.some.ensures c.args.out.now c.args.at;
-    }
+  place = omega (arith, size_is c, length_code c.args.x);
+  stores = stored_short c.args.x c.some.result c.requires.0 c.some.ensures c.args.out.now c.args.at;
+}

@@ -1,10 +1,10 @@
 -- `code_stretch::singles` meets its contract: the bytes before i are added, and codes if none has the flag. Assumes nothing.
 use mathlib.Core.Path.{refl}
-use Prim.Native.Nat.{◌-◌, ◌≤◌, ◌<◌}
+use Prim.Native.Nat.{◌<◌}
 use native.Mathlib.Omega.{arith}
 use lib.ListN.{get_or}
 use Rattle.code_stretch.specs.Inside.Bytewise.{stretch}
-use Rattle.code_stretch.proofs.Runs.{Singles, Singles_start, Singles_turn, Singles_end}
+use Rattle.code_stretch.proofs.Runs.{Singles_start, Singles_turn, Singles_end}
 use Rattle.code_stretch.proofs.singles.Goals as goal
 use Rattle.code_stretch.proofs.singles.Goals.{After-larger-largest, After-shared_slice_known-in-loop-i-1}
 

@@ -1,7 +1,6 @@
 -- `code_stretch::tally` meets its contract: what is added and what the bytes from i on say is all. Assumes nothing.
 use Prim.Native.Nat.{◌-◌, ◌≤◌}
-use native.Mathlib.Omega.{arith}
-use Rattle.code_stretch.proofs.Bytewise.{Adding, Adding_start, Adding_turn, adding_end}
+use Rattle.code_stretch.proofs.Bytewise.{Adding}
 use Rattle.code_stretch.proofs.tally.Given as goal
 
 abbrev pub invariant-loop-i : goal.invariant-loop-i

@@ -1,12 +1,10 @@
 -- `codes::check` meets its contract. The invariant: what is to be found is what is found from `at` on, after `count` steps that end
 -- before `next`. A step is below the values of a code for each byte passed, so that no sum wraps. Assumes nothing.
-use mathlib.Core.Path.{◌≡◌, refl, sym, ◌∙◌}
-use Prim.Native.Nat.{◌+◌, ◌-◌, ◌*◌, ◌^◌, ◌≤◌}
+use mathlib.Core.Path.{refl, sym, ◌∙◌}
+use Prim.Native.Nat.{◌+◌, ◌*◌, ◌≤◌}
 use native.Mathlib.Omega.{arith}
-use lib.ListN.{length}
 use Rattle.code.specs.Code.{code_values}
 use Rattle.code_stretch.specs.Runs.{Passed}
-use Rattle.codes.specs.Codes.{steps_from, tally_of}
 use Rattle.codes.proofs.Passing.{passed_few, passed_tally}
 use Rattle.codes.proofs.check.Goals as goal
 use Rattle.codes.proofs.check.Goals.{After-struct_known-in-loop-at-1, After-struct_known-in-loop-at-2-1}
@@ -52,11 +50,11 @@ loop-at-smaller c = omega (arith, (passed-After-struct_known-in-loop-at-2-1 c).w
 
 pub loop-at-preserved : goal.loop-at-preserved
 loop-at-preserved c = let t = passed-After-struct_known-in-loop-at-2-1 c in (
-      t.within,
-      c.loop-at.invariant.1 ∙ passed_tally (λ i. omega (arith, c.type_inv.part i)) t c.loop-at.count c.loop-at.next,
-      omega (arith, few-After-struct_known-in-loop-at-2-1 c),
-      omega (arith, few-After-struct_known-in-loop-at-2-1 c),
-    )
+  t.within,
+  c.loop-at.invariant.1 ∙ passed_tally (λ i. omega (arith, c.type_inv.part i)) t c.loop-at.count c.loop-at.next,
+  omega (arith, few-After-struct_known-in-loop-at-2-1 c),
+  omega (arith, few-After-struct_known-in-loop-at-2-1 c),
+)
 
 pub check_from-requires-2 : goal.check_from-requires-2
 check_from-requires-2 c = (omega arith, (omega arith, (omega arith, omega arith)))

@@ -1,13 +1,10 @@
 -- `codes::check` meets its contract. The invariant: what is to be found is what is found from `at` on, after `count` steps that end
 -- before `next`. A step is below the values of a code for each byte passed, so that no sum wraps. Assumes nothing.
-use mathlib.Core.Path.{◌≡◌, refl, sym, ◌∙◌}
+use mathlib.Core.Path.{◌≡◌}
 use Prim.Native.Nat.{◌+◌, ◌-◌, ◌*◌, ◌^◌, ◌≤◌}
-use native.Mathlib.Omega.{arith}
 use lib.ListN.{length}
 use Rattle.code.specs.Code.{code_values}
-use Rattle.code_stretch.specs.Runs.{Passed}
 use Rattle.codes.specs.Codes.{steps_from, tally_of}
-use Rattle.codes.proofs.Passing.{passed_few, passed_tally}
 use Rattle.codes.proofs.check.Given as goal
 
 abbrev pub invariant-loop-at : goal.invariant-loop-at

@@ -1,16 +1,10 @@
 -- `codes::check_from` meets its contract. The invariant: what is to be found is what is found from `at` on, after `count` steps that end
 -- before `next`. A step is below the values of a code for each byte passed, so that no sum wraps. Assumes nothing.
-use mathlib.Core.Path.{◌≡◌, refl, sym, ◌∙◌}
+use mathlib.Core.Path.{◌≡◌}
 use Prim.Native.Nat.{◌+◌, ◌-◌, ◌*◌, ◌^◌, ◌≤◌}
-use native.Mathlib.Omega.{arith}
 use lib.ListN.{length}
-use Rattle.code.specs.declared.Reading.TheVariants.{Code}
-use Rattle.code.specs.Code.{code_values, read_at}
-use Rattle.code.specs.Code.Read.{Read}
-use Rattle.code.proofs.Laws.{read_sound}
+use Rattle.code.specs.Code.{code_values}
 use Rattle.codes.specs.Codes.{steps_from, tally_of}
-use Rattle.codes.proofs.Codes.{Read_passes}
-use Rattle.codes.proofs.Turns.{tally_more, tally_bad, tally_end}
 use Rattle.codes.proofs.check_from.Given as goal
 
 abbrev pub invariant-loop-at : goal.invariant-loop-at

@@ -1,16 +1,12 @@
 -- `codes::first_from` meets its contract. The invariant: `index` steps were passed, which are below x, and what is looked for is found among
 -- those from `at` on.
 -- Assumes nothing.
-use mathlib.Core.Path.{◌≡◌, refl, sym, ap, ◌∙◌}
-use mathlib.Core.List.{List}
-use Prim.Native.Nat.{ℕ, ◌+◌, ◌-◌, ◌≤◌}
-use native.Mathlib.Omega.{arith}
+use mathlib.Core.Path.{◌≡◌}
+use Prim.Native.Nat.{◌+◌, ◌-◌, ◌≤◌}
 use lib.ListN.{length}
 use Rattle.lists.specs.Below.{below}
-use Rattle.lists.proofs.Below.{below-nil, below-here, below-past}
 use Rattle.codes.specs.Codes.{steps_from, list_of, Sound}
-use Rattle.codes.proofs.Finding.{found_in, found_none, found_here, found_past}
-use Rattle.codes.proofs.Turns.{steps_none}
+use Rattle.codes.proofs.Finding.{found_in}
 use Rattle.codes.proofs.first_from.Given as goal
 
 abbrev pub invariant-loop-at : goal.invariant-loop-at

@@ -2,12 +2,10 @@
 -- those from `at` on.
 -- Assumes nothing.
 use mathlib.Core.Path.{refl, ◌∙◌}
-use Prim.Native.Nat.{◌+◌, ◌-◌, ◌≤◌}
+use Prim.Native.Nat.{◌+◌, ◌≤◌}
 use native.Mathlib.Omega.{arith}
-use lib.ListN.{length}
 use Rattle.code_stretch.specs.Runs.{Passed}
-use Rattle.codes.specs.Codes.{steps_from, list_of, Sound}
-use Rattle.codes.proofs.Finding.{Ahead, Ahead_answer}
+use Rattle.codes.proofs.Finding.{Ahead_answer}
 use Rattle.codes.proofs.Passing.{passed_few, Skipped, passed_steps, skipped_found}
 use Rattle.codes.proofs.first_in.Goals as goal
 use Rattle.codes.proofs.first_in.Goals.{After-struct_known-in-loop-at-1, After-struct_known-in-loop-at-2-1}
@@ -64,14 +62,14 @@ loop-at-smaller c = omega (arith, (passed-After-struct_known-in-loop-at-2-1 c).w
 
 pub loop-at-preserved : goal.loop-at-preserved
 loop-at-preserved c = let t = skipped-After-struct_known-in-loop-at-2-1 c in (
-      (passed-After-struct_known-in-loop-at-2-1 c).within,
-      t.sound,
-      record {
-        rank = omega (arith, c.loop-at.invariant.2.rank, t.under c.args.x (omega arith));
-        found = c.loop-at.invariant.2.found ∙ skipped_found t c.args.x (omega arith);
-      },
-      omega (arith, c.loop-at.invariant.3, few c),
-    )
+  (passed-After-struct_known-in-loop-at-2-1 c).within,
+  t.sound,
+  record {
+    rank = omega (arith, c.loop-at.invariant.2.rank, t.under c.args.x (omega arith));
+    found = c.loop-at.invariant.2.found ∙ skipped_found t c.args.x (omega arith);
+  },
+  omega (arith, c.loop-at.invariant.3, few c),
+)
 
 pub first_from-requires-2 : goal.first_from-requires-2
 first_from-requires-2 c = (c.loop-at.invariant.0, (c.loop-at.invariant.1, c.loop-at.invariant.3))

@@ -1,14 +1,10 @@
 -- `codes::first_in` meets its contract. The invariant: `index` steps were passed, which are below x, and what is looked for is found among
 -- those from `at` on.
 -- Assumes nothing.
-use mathlib.Core.Path.{refl, ◌∙◌}
-use Prim.Native.Nat.{◌+◌, ◌-◌, ◌≤◌}
-use native.Mathlib.Omega.{arith}
+use Prim.Native.Nat.{◌-◌, ◌≤◌}
 use lib.ListN.{length}
-use Rattle.code_stretch.specs.Runs.{Passed}
 use Rattle.codes.specs.Codes.{steps_from, list_of, Sound}
-use Rattle.codes.proofs.Finding.{Ahead, Ahead_answer}
-use Rattle.codes.proofs.Passing.{passed_few, Skipped, passed_steps, skipped_found}
+use Rattle.codes.proofs.Finding.{Ahead}
 use Rattle.codes.proofs.first_in.Given as goal
 
 abbrev pub invariant-loop-at : goal.invariant-loop-at

@@ -1,11 +1,9 @@
 -- `codes::step_at` meets its contract. The invariant: the step asked for is the one at index `left` of the steps from `at` on.
 -- Assumes nothing.
-use mathlib.Core.Path.{◌≡◌, refl, sym, ◌∙◌}
-use Prim.Native.Nat.{◌+◌, ◌-◌, ◌≤◌, ◌<◌}
+use mathlib.Core.Path.{refl, sym, ◌∙◌}
+use Prim.Native.Nat.{◌+◌}
 use native.Mathlib.Omega.{arith}
-use lib.ListN.{length, get_or}
 use Rattle.code_stretch.specs.Runs.{Passed}
-use Rattle.codes.specs.Codes.{steps_from, list_of, Sound}
 use Rattle.codes.proofs.Passing.{Skipped, passed_steps, skipped_length, skipped_at}
 use Rattle.codes.proofs.step_at.Goals as goal
 use Rattle.codes.proofs.step_at.Goals.{After-struct_known-in-loop-at-3-1}
@@ -49,11 +47,11 @@ loop-at-smaller c = omega (arith, (passed c).within)
 
 pub loop-at-preserved : goal.loop-at-preserved
 loop-at-preserved c = let t = skipped c in (
-      (passed c).within,
-      t.sound,
-      c.loop-at.invariant.2 ∙ skipped_at t c.loop-at.left (omega arith),
-      omega (arith, c.loop-at.invariant.3, skipped_length t),
-    )
+  (passed c).within,
+  t.sound,
+  c.loop-at.invariant.2 ∙ skipped_at t c.loop-at.left (omega arith),
+  omega (arith, c.loop-at.invariant.3, skipped_length t),
+)
 
 pub step_from-requires-2 : goal.step_from-requires-2
 step_from-requires-2 c = (c.loop-at.invariant.0, (c.loop-at.invariant.1, c.loop-at.invariant.3))

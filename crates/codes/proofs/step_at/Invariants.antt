@@ -1,12 +1,9 @@
 -- `codes::step_at` meets its contract. The invariant: the step asked for is the one at index `left` of the steps from `at` on.
 -- Assumes nothing.
-use mathlib.Core.Path.{◌≡◌, refl, sym, ◌∙◌}
-use Prim.Native.Nat.{◌+◌, ◌-◌, ◌≤◌, ◌<◌}
-use native.Mathlib.Omega.{arith}
+use mathlib.Core.Path.{◌≡◌}
+use Prim.Native.Nat.{◌-◌, ◌≤◌, ◌<◌}
 use lib.ListN.{length, get_or}
-use Rattle.code_stretch.specs.Runs.{Passed}
 use Rattle.codes.specs.Codes.{steps_from, list_of, Sound}
-use Rattle.codes.proofs.Passing.{Skipped, passed_steps, skipped_length, skipped_at}
 use Rattle.codes.proofs.step_at.Given as goal
 
 abbrev pub invariant-loop-at : goal.invariant-loop-at

@@ -1,12 +1,9 @@
 -- `codes::step_from` meets its contract. The invariant: the step asked for is the one at index `left` of the steps from `at` on.
 -- Assumes nothing.
-use mathlib.Core.Path.{◌≡◌, refl, sym, ap, ◌∙◌}
+use mathlib.Core.Path.{◌≡◌}
 use Prim.Native.Nat.{◌-◌, ◌≤◌, ◌<◌}
-use native.Mathlib.Omega.{arith}
 use lib.ListN.{length, get_or}
-use Rattle.lists.proofs.Parts.{get_or_here, get_or_past}
 use Rattle.codes.specs.Codes.{steps_from, list_of, Sound}
-use Rattle.codes.proofs.Turns.{steps_none}
 use Rattle.codes.proofs.step_from.Given as goal
 
 abbrev pub invariant-loop-at : goal.invariant-loop-at

@@ -1,11 +1,9 @@
 -- `codes::steps` meets its contract. The invariant: what is to be stored has been stored, but for the steps from `p` on, which go to
 -- the place `k`. Assumes nothing.
 use Prim.Native.Nat.{◌-◌, ◌≤◌}
-use native.Mathlib.Omega.{arith}
 use lib.ListN.{length}
-use Rattle.lists.proofs.Stores.{Storing, Storing_start, Storing_one, storing_room, storing_end}
+use Rattle.lists.proofs.Stores.{Storing}
 use Rattle.codes.specs.Codes.{steps_from, list_of, Sound}
-use Rattle.codes.proofs.Turns.{steps_none}
 use Rattle.codes.proofs.steps.Given as goal
 
 abbrev pub invariant-loop-p : goal.invariant-loop-p

@@ -1,11 +1,6 @@
 -- `codes_write::largest_gap` meets its contract: where the largest gap so far is below 128, only the gaps from rank `i` on are in question.
 -- Assumes nothing.
-use Prim.Native.Nat.{◌-◌, ◌≤◌, ◌<◌}
 use native.Mathlib.Omega.{arith}
-use lib.ListN.{length, drop}
-use Rattle.lists.specs.Rising.{Rising, beyond}
-use Rattle.code.specs.Code.{one_group, code_values}
-use Rattle.codes_write.specs.Inside.Groups.{Near}
 use Rattle.codes_write.proofs.Writing.{Next, next}
 use Rattle.codes_write.proofs.Groups.{near_none, Near-cons}
 use Rattle.codes_write.proofs.largest_gap.Goals as goal
@@ -31,13 +26,12 @@ pub overflow_add-next : goal.overflow_add-next
 overflow_add-next c = omega (arith, (this-After-larger-largest c).small)
 
 pub loop-i-preserved : goal.loop-i-preserved
-loop-i-preserved c = let t = this-After-larger-largest c in
-    (
-      omega arith,
-      t.rising,
-      t.end,
-      λ h n. c.loop-i.invariant.3 (omega (arith, c.larger-largest.ensures.0)) (Near-cons c.loop-i.next _ c.loop-i.i (omega arith) (omega (arith, c.larger-largest.ensures.1)) n),
-    )
+loop-i-preserved c = let t = this-After-larger-largest c in (
+  omega arith,
+  t.rising,
+  t.end,
+  λ h n. c.loop-i.invariant.3 (omega (arith, c.larger-largest.ensures.0)) (Near-cons c.loop-i.next _ c.loop-i.i (omega arith) (omega (arith, c.larger-largest.ensures.1)) n),
+)
 
 pub returns : goal.returns
 returns c = λ h. c.loop-i.invariant.3 h (near_none c.loop-i.next c.args.list.now c.loop-i.i (omega arith))

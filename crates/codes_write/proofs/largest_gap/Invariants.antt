@@ -1,13 +1,11 @@
 -- `codes_write::largest_gap` meets its contract: where the largest gap so far is below 128, only the gaps from rank `i` on are in question.
 -- Assumes nothing.
 use Prim.Native.Nat.{◌-◌, ◌≤◌, ◌<◌}
-use native.Mathlib.Omega.{arith}
 use lib.ListN.{length, drop}
 use Rattle.lists.specs.Rising.{Rising, beyond}
 use Rattle.code.specs.Code.{one_group, code_values}
 use Rattle.codes_write.specs.Inside.Groups.{Near}
-use Rattle.codes_write.proofs.Writing.{Next, next}
-use Rattle.codes_write.proofs.Groups.{near_none, Near-cons}
+use Rattle.codes_write.proofs.Writing.{next}
 use Rattle.codes_write.proofs.largest_gap.Given as goal
 
 abbrev pub invariant-loop-i : goal.invariant-loop-i

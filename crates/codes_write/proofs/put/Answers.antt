@@ -2,14 +2,14 @@
 -- the place `p`. Assumes nothing.
 use mathlib.Core.Path.{sym, ap, ◌∙◌, subst}
 use mathlib.Core.List.{List}
-use Prim.Native.Nat.{ℕ, ◌+◌, ◌-◌, ◌≤◌}
+use Prim.Native.Nat.{ℕ, ◌+◌, ◌≤◌}
 use native.Mathlib.Omega.{arith}
-use lib.ListN.{length, drop}
+use lib.ListN.{length}
 use lib.Seq.{length-sets}
 use Rattle.lists.specs.Rising.{Rising, beyond}
 use Rattle.lists.specs.Parts.{part}
 use Rattle.lists.proofs.Parts.{part_end}
-use Rattle.lists.proofs.Stores.{Storing, Storing_start, Storing_run}
+use Rattle.lists.proofs.Stores.{Storing_start, Storing_run}
 use Rattle.code.specs.Code.{code_values}
 use Rattle.codes.specs.Codes.{codes_for}
 use Rattle.codes_write.proofs.Groups.{Parted, parted, Storing_rest}
@@ -65,12 +65,12 @@ slice_bounds-put_each-end c = omega arith
 
 pub put_each-requires : goal.put_each-requires
 put_each-requires c = let e = part_end c.args.list.now c.loop-i.i in (
-      subst (Rising c.loop-i.next) (sym e) c.loop-i.invariant.2,
-      (
-        subst (λ (r : List ℕ). beyond c.loop-i.next r ≤ code_values) (sym e) c.loop-i.invariant.3,
-        subst (λ (r : List ℕ). c.loop-i.p + length (codes_for c.loop-i.next r) ≤ length c.loop-i.out) (sym e) c.loop-i.invariant.1.room,
-      ),
-    )
+  subst (Rising c.loop-i.next) (sym e) c.loop-i.invariant.2,
+  (
+    subst (λ (r : List ℕ). beyond c.loop-i.next r ≤ code_values) (sym e) c.loop-i.invariant.3,
+    subst (λ (r : List ℕ). c.loop-i.p + length (codes_for c.loop-i.next r) ≤ length c.loop-i.out) (sym e) c.loop-i.invariant.1.room,
+  ),
+)
 
 pub shape_of-out : goal.shape_of-out
 shape_of-out c = ap length c.put_each.ensures.stores ∙ length-sets c.loop-i.out c.loop-i.p (codes_for c.loop-i.next (part c.args.list.now c.loop-i.i (length c.args.list.now))) ∙ c.loop-i.invariant.1.same

@@ -1,18 +1,11 @@
 -- `codes_write::put` meets its contract. The invariant: the codes have been stored, but for those of the steps from rank `i` on, which go to
 -- the place `p`. Assumes nothing.
-use mathlib.Core.Path.{sym, ap, ◌∙◌, subst}
-use mathlib.Core.List.{List}
-use Prim.Native.Nat.{ℕ, ◌+◌, ◌-◌, ◌≤◌}
-use native.Mathlib.Omega.{arith}
+use Prim.Native.Nat.{◌-◌, ◌≤◌}
 use lib.ListN.{length, drop}
-use lib.Seq.{length-sets}
 use Rattle.lists.specs.Rising.{Rising, beyond}
-use Rattle.lists.specs.Parts.{part}
-use Rattle.lists.proofs.Parts.{part_end}
-use Rattle.lists.proofs.Stores.{Storing, Storing_start, Storing_run}
+use Rattle.lists.proofs.Stores.{Storing}
 use Rattle.code.specs.Code.{code_values}
 use Rattle.codes.specs.Codes.{codes_for}
-use Rattle.codes_write.proofs.Groups.{Parted, parted, Storing_rest}
 use Rattle.codes_write.proofs.put.Given as goal
 
 abbrev pub invariant-loop-i : goal.invariant-loop-i

@@ -1,12 +1,10 @@
 -- `codes_write::put_each` meets its contract. The invariant: the codes have been stored, but for those of the steps from rank `i` on, which go to
 -- the place `p`. Assumes nothing.
-use Prim.Native.Nat.{◌-◌, ◌≤◌}
+use Prim.Native.Nat.{◌-◌}
 use native.Mathlib.Omega.{arith}
-use lib.ListN.{length, get_or, drop}
-use Rattle.lists.specs.Rising.{Rising, beyond}
-use Rattle.lists.proofs.Stores.{Storing, Storing_start, Storing_run, storing_end}
-use Rattle.code.specs.Code.{code_values, code_of}
-use Rattle.codes.specs.Codes.{codes_for}
+use lib.ListN.{get_or}
+use Rattle.lists.proofs.Stores.{Storing_start, Storing_run, storing_end}
+use Rattle.code.specs.Code.{code_of}
 use Rattle.codes_write.proofs.Writing.{Next, next, codes_none}
 use Rattle.codes_write.proofs.put_each.Goals as goal
 use Rattle.codes_write.proofs.put_each.Goals.{After-put-arg-1, After-slice_known-in-loop-i-1}
@@ -36,8 +34,7 @@ overflow_add-next c = omega (arith, (this-After-slice_known-in-loop-i-1 c).small
 
 pub loop-i-preserved : goal.loop-i-preserved
 loop-i-preserved c = let t = this-After-slice_known-in-loop-i-1 c in
-    let v = get_or c.args.list.now c.loop-i.i 0 - c.loop-i.next in
-    (
+    let v = get_or c.args.list.now c.loop-i.i 0 - c.loop-i.next in (
       omega arith,
       Storing_run c.loop-i.invariant.1 (code_of v) _ t.codes c.put-p.ensures.place c.put-p.ensures.stores,
       t.rising,

@@ -1,13 +1,12 @@
 -- `codes_write::put_each` meets its contract. The invariant: the codes have been stored, but for those of the steps from rank `i` on, which go to
 -- the place `p`. Assumes nothing.
 use Prim.Native.Nat.{◌-◌, ◌≤◌}
-use native.Mathlib.Omega.{arith}
-use lib.ListN.{length, get_or, drop}
+use lib.ListN.{length, drop}
 use Rattle.lists.specs.Rising.{Rising, beyond}
-use Rattle.lists.proofs.Stores.{Storing, Storing_start, Storing_run, storing_end}
-use Rattle.code.specs.Code.{code_values, code_of}
+use Rattle.lists.proofs.Stores.{Storing}
+use Rattle.code.specs.Code.{code_values}
 use Rattle.codes.specs.Codes.{codes_for}
-use Rattle.codes_write.proofs.Writing.{Next, next, codes_none}
+use Rattle.codes_write.proofs.Writing.{next}
 use Rattle.codes_write.proofs.put_each.Given as goal
 
 abbrev pub invariant-loop-i : goal.invariant-loop-i

@@ -2,12 +2,11 @@
 -- single byte. Assumes nothing.
 use mathlib.Core.Path.{◌≡◌}
 use mathlib.Core.List.{◌∷◌}
-use Prim.Native.Nat.{◌+◌, ◌-◌, ◌≤◌, ◌<◌}
+use Prim.Native.Nat.{◌+◌, ◌-◌, ◌<◌}
 use native.Mathlib.Omega.{arith}
-use lib.ListN.{length, get_or, drop}
-use Rattle.lists.specs.Rising.{Rising, beyond}
-use Rattle.lists.proofs.Stores.{Storing, Storing_start, Storing_one, storing_room, storing_end}
-use Rattle.code.specs.Code.{one_group, code_values}
+use lib.ListN.{get_or, drop}
+use Rattle.lists.proofs.Stores.{Storing_start, Storing_one, storing_room, storing_end}
+use Rattle.code.specs.Code.{one_group}
 use Rattle.codes.specs.Codes.{codes_for}
 use Rattle.codes_write.specs.Inside.Groups.{Near}
 use Rattle.codes_write.proofs.Writing.{Next, next, codes_none}

@@ -1,17 +1,13 @@
 -- `codes_write::put_singles` meets its contract. The invariant: the codes have been stored, but for those of the steps from rank `i` on, each a
 -- single byte. Assumes nothing.
-use mathlib.Core.Path.{◌≡◌}
-use mathlib.Core.List.{◌∷◌}
-use Prim.Native.Nat.{◌+◌, ◌-◌, ◌≤◌, ◌<◌}
-use native.Mathlib.Omega.{arith}
-use lib.ListN.{length, get_or, drop}
+use Prim.Native.Nat.{◌-◌, ◌≤◌}
+use lib.ListN.{length, drop}
 use Rattle.lists.specs.Rising.{Rising, beyond}
-use Rattle.lists.proofs.Stores.{Storing, Storing_start, Storing_one, storing_room, storing_end}
-use Rattle.code.specs.Code.{one_group, code_values}
+use Rattle.lists.proofs.Stores.{Storing}
+use Rattle.code.specs.Code.{code_values}
 use Rattle.codes.specs.Codes.{codes_for}
 use Rattle.codes_write.specs.Inside.Groups.{Near}
-use Rattle.codes_write.proofs.Writing.{Next, next, codes_none}
-use Rattle.codes_write.proofs.Groups.{Near_uncons, Near_codes}
+use Rattle.codes_write.proofs.Writing.{next}
 use Rattle.codes_write.proofs.put_singles.Given as goal
 
 abbrev pub invariant-loop-i : goal.invariant-loop-i

@@ -8,15 +8,15 @@ use Rattle.codes_write.proofs.put_some.Goals as goal
 use Rattle.codes_write.proofs.put_some.Goals.{After-largest_gap-arg-1, After-put_each-arg-2-1, After-put_singles-arg-then-largest_gap-lt-ONE_GROUP-1}
 
 -- the steps before rank `j` are a part
-front-After-largest_gap-arg-1 : (c : After-largest_gap-arg-1) →(j : ℕ) → c.args.i < j → j ≤ length c.args.list.now → Parted c.args.from c.args.list.now c.args.i j
+front-After-largest_gap-arg-1 : (c : After-largest_gap-arg-1) → (j : ℕ) → c.args.i < j → j ≤ length c.args.list.now → Parted c.args.from c.args.list.now c.args.i j
 front-After-largest_gap-arg-1 c j h l = parted c.args.from c.args.list.now c.args.i j h l c.requires.1.0 c.requires.1.1.0
 
 -- the steps before rank `j` are a part
-front-After-put_singles-arg-then-largest_gap-lt-ONE_GROUP-1 : (c : After-put_singles-arg-then-largest_gap-lt-ONE_GROUP-1) →(j : ℕ) → c.args.i < j → j ≤ length c.args.list.now → Parted c.args.from c.args.list.now c.args.i j
+front-After-put_singles-arg-then-largest_gap-lt-ONE_GROUP-1 : (c : After-put_singles-arg-then-largest_gap-lt-ONE_GROUP-1) → (j : ℕ) → c.args.i < j → j ≤ length c.args.list.now → Parted c.args.from c.args.list.now c.args.i j
 front-After-put_singles-arg-then-largest_gap-lt-ONE_GROUP-1 c j h l = parted c.args.from c.args.list.now c.args.i j h l c.requires.1.0 c.requires.1.1.0
 
 -- the steps before rank `j` are a part
-front-After-put_each-arg-2-1 : (c : After-put_each-arg-2-1) →(j : ℕ) → c.args.i < j → j ≤ length c.args.list.now → Parted c.args.from c.args.list.now c.args.i j
+front-After-put_each-arg-2-1 : (c : After-put_each-arg-2-1) → (j : ℕ) → c.args.i < j → j ≤ length c.args.list.now → Parted c.args.from c.args.list.now c.args.i j
 front-After-put_each-arg-2-1 c j h l = parted c.args.from c.args.list.now c.args.i j h l c.requires.1.0 c.requires.1.1.0
 
 pub largest_gap-requires : goal.largest_gap-requires

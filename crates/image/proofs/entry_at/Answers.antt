@@ -4,6 +4,6 @@ use Rattle.image.proofs.entry_at.Goals as goal
 
 pub returns : goal.returns
 returns c = (
-      entry_at_lem c.args.s.now c.args.at c.wide.ensures.0 c.number_at.ensures.0 c.number_at-2.ensures.0 c.number_at-3.ensures.0,
-      record { kind = c.wide.ensures.1; last = c.number_at.ensures.1; upto = c.number_at-2.ensures.1; end = c.number_at-3.ensures.1 },
-    )
+  entry_at_lem c.args.s.now c.args.at c.wide.ensures.0 c.number_at.ensures.0 c.number_at-2.ensures.0 c.number_at-3.ensures.0,
+  record { kind = c.wide.ensures.1; last = c.number_at.ensures.1; upto = c.number_at-2.ensures.1; end = c.number_at-3.ensures.1 },
+)

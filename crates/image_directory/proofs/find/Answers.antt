@@ -1,6 +1,5 @@
 -- `image_directory::find` meets its contract: no entry that was passed has the answer. Assumes nothing.
 use mathlib.Core.Path.{sym, ◌∙◌, subst}
-use Prim.Native.Nat.{◌-◌}
 use native.Mathlib.Omega.{arith}
 use Rattle.image.specs.declared.Before.{Before}
 use Rattle.image_directory.proofs.Seeking.{Seeking, Seeking-start, seeking_here, seeking_past, seeking_end}

@@ -8,13 +8,16 @@ use Rattle.pair.proofs.Outcomes.{Promise_refused}
 use Rattle.pair.proofs.counted_with.Goals as goal
 
 pub stored-requires : goal.stored-requires
-stored-requires c = record { ready = record {
-        first_taken = c.requires.0;
-        second_taken = c.requires.1;
-        room =
-            subst (λ (n : ℕ). Roomy n (length c.args.steps.now) (length c.args.work.now)) c.count-n.ensures.counted
-            (enough_Roomy (sym c.room_for-room.ensures ∙ c.in-Enough.is));
-      }; held = c.count-n.ensures }
+stored-requires c = record {
+  ready = record {
+    first_taken = c.requires.0;
+    second_taken = c.requires.1;
+    room =
+        subst (λ (n : ℕ). Roomy n (length c.args.steps.now) (length c.args.work.now)) c.count-n.ensures.counted
+        (enough_Roomy (sym c.room_for-room.ensures ∙ c.in-Enough.is));
+  };
+  held = c.count-n.ensures;
+}
 
 pub returns-in-Refused : goal.returns-in-Refused
 returns-in-Refused c = Promise_refused c.args.op c.args.first.now c.args.second.now c.args.steps.now c.args.work.now c.args.out.now

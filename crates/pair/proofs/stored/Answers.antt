@@ -38,10 +38,10 @@ roomy-After-slice_known-6-1 c =
 
 pub write_front-requires : goal.write_front-requires
 write_front-requires c = (
-      subst Listed (sym (front c)) (listed c),
-      stored_Roomy c.args.steps.now c.args.work.now c.args.out.now (result_of c.args.op (steps_of c.args.first.now) (steps_of c.args.second.now))
-          c.store-k.result c.store-k.ensures.0 c.store-k.ensures.1 (roomy-After-write_front-arg-2-1 c),
-    )
+  subst Listed (sym (front c)) (listed c),
+  stored_Roomy c.args.steps.now c.args.work.now c.args.out.now (result_of c.args.op (steps_of c.args.first.now) (steps_of c.args.second.now))
+      c.store-k.result c.store-k.ensures.0 c.store-k.ensures.1 (roomy-After-write_front-arg-2-1 c),
+)
 
 pub returns : goal.returns
 returns c = Promise_written c.args.op c.args.first.now c.args.second.now c.args.steps.now c.args.work.now c.args.out.now

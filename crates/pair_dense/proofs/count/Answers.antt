@@ -1,15 +1,10 @@
 -- `pair_dense::count` meets its contract. The invariant: the steps counted and those that the result has ahead are all of it. Assumes nothing.
 use mathlib.Core.Path.{sym}
-use Prim.Native.Nat.{◌-◌}
 use native.Mathlib.Omega.{arith}
 use Rattle.rules.specs.Limits.Laws.{largest_coded}
-use Rattle.rules.specs.Limits.{no_step}
-use Rattle.image.specs.Taken.{steps_of}
 use Rattle.image_directory.proofs.Whole.{payload_within}
 use Rattle.pair_window.proofs.Words.{words_empty}
-use Rattle.pair_operation.specs.Result.{result_of}
-use Rattle.pair_dense.specs.Inside.Walks.{Together, result_ahead}
-use Rattle.pair_dense.proofs.Walking.{Counting, Counting_start, Counting_run, counting_end, together_end}
+use Rattle.pair_dense.proofs.Walking.{Counting_start, Counting_run, counting_end, together_end}
 use Rattle.pair_dense.proofs.Windows.{passes_count}
 use Rattle.pair_dense.proofs.count.Goals as goal
 

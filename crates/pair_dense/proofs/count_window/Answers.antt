@@ -1,11 +1,8 @@
 -- `pair_dense::count_window` meets its contract. The invariant: the steps counted and those from word i on are all of them. Assumes nothing.
-use mathlib.Core.Path.{◌≡◌, ap}
-use Prim.Native.Nat.{◌+◌, ◌-◌, ◌*◌, ◌≤◌}
+use mathlib.Core.Path.{ap}
 use native.Mathlib.Omega.{arith}
 use lib.ListN.{length}
-use Rattle.row.specs.Words.{word_bits}
-use Rattle.pair_dense.specs.Inside.Words.{steps_in}
-use Rattle.pair_dense.proofs.Words.{left_in, left_start, left_length, left_end}
+use Rattle.pair_dense.proofs.Words.{left_start, left_length, left_end}
 use Rattle.pair_dense.proofs.count_window.Goals as goal
 
 pub loop-i-init : goal.loop-i-init

@@ -1,11 +1,10 @@
 -- `pair_dense::count_window` meets its contract. The invariant: the steps counted and those from word i on are all of them. Assumes nothing.
-use mathlib.Core.Path.{◌≡◌, ap}
+use mathlib.Core.Path.{◌≡◌}
 use Prim.Native.Nat.{◌+◌, ◌-◌, ◌*◌, ◌≤◌}
-use native.Mathlib.Omega.{arith}
 use lib.ListN.{length}
 use Rattle.row.specs.Words.{word_bits}
 use Rattle.pair_dense.specs.Inside.Words.{steps_in}
-use Rattle.pair_dense.proofs.Words.{left_in, left_start, left_length, left_end}
+use Rattle.pair_dense.proofs.Words.{left_in}
 use Rattle.pair_dense.proofs.count_window.Given as goal
 
 abbrev pub invariant-loop-i : goal.invariant-loop-i

@@ -1,14 +1,13 @@
 -- `pair_dense::put_window` meets its contract. The invariant: the steps from word i on are left to store. Assumes nothing.
 use mathlib.Core.Path.{sym}
-use Prim.Native.Nat.{◌+◌, ◌-◌, ◌*◌, ◌≤◌}
+use Prim.Native.Nat.{◌+◌, ◌*◌}
 use native.Mathlib.Omega.{arith}
-use lib.ListN.{length}
-use Rattle.lists.proofs.Stores.{Storing, Storing_start, Storing_same, Storing_run, storing_end}
+use Rattle.lists.proofs.Stores.{Storing_start, Storing_same, Storing_run, storing_end}
 use Rattle.row.specs.Row.{bits_from}
 use Rattle.row.specs.Words.{word_bits}
 use Rattle.row.proofs.Bits.{beyond_bits, length_bits_moved}
 use Rattle.pair_dense.specs.Inside.Words.{steps_in}
-use Rattle.pair_dense.proofs.Words.{left_in, left_start, left_turn, left_length, left_end}
+use Rattle.pair_dense.proofs.Words.{left_start, left_turn, left_length, left_end}
 use Rattle.pair_dense.proofs.put_window.Goals as goal
 
 pub loop-i-init : goal.loop-i-init
@@ -35,9 +34,9 @@ overflow_add-from c = omega (arith, c.requires.left_len.1)
 
 pub put_joined-k-requires : goal.put_joined-k-requires
 put_joined-k-requires c = let n = left_length c.args.op c.args.from c.args.left.now c.args.right.now c.loop-i.i c.joined.result (omega arith) c.requires.left_len.0 c.joined.ensures in (
-      omega (arith, beyond_bits word_bits (c.args.from + word_bits * c.loop-i.i) c.joined.result, c.requires.left_len.1),
-      omega (arith, c.loop-i.invariant.1.room, n, length_bits_moved word_bits (c.args.from + word_bits * c.loop-i.i) c.joined.result),
-    )
+  omega (arith, beyond_bits word_bits (c.args.from + word_bits * c.loop-i.i) c.joined.result, c.requires.left_len.1),
+  omega (arith, c.loop-i.invariant.1.room, n, length_bits_moved word_bits (c.args.from + word_bits * c.loop-i.i) c.joined.result),
+)
 
 pub overflow_add-i : goal.overflow_add-i
 overflow_add-i c = omega arith

@@ -1,14 +1,9 @@
 -- `pair_dense::put_window` meets its contract. The invariant: the steps from word i on are left to store. Assumes nothing.
-use mathlib.Core.Path.{sym}
-use Prim.Native.Nat.{◌+◌, ◌-◌, ◌*◌, ◌≤◌}
-use native.Mathlib.Omega.{arith}
+use Prim.Native.Nat.{◌-◌, ◌≤◌}
 use lib.ListN.{length}
-use Rattle.lists.proofs.Stores.{Storing, Storing_start, Storing_same, Storing_run, storing_end}
-use Rattle.row.specs.Row.{bits_from}
-use Rattle.row.specs.Words.{word_bits}
-use Rattle.row.proofs.Bits.{beyond_bits, length_bits_moved}
+use Rattle.lists.proofs.Stores.{Storing}
 use Rattle.pair_dense.specs.Inside.Words.{steps_in}
-use Rattle.pair_dense.proofs.Words.{left_in, left_start, left_turn, left_length, left_end}
+use Rattle.pair_dense.proofs.Words.{left_in}
 use Rattle.pair_dense.proofs.put_window.Given as goal
 
 abbrev pub invariant-loop-i : goal.invariant-loop-i

@@ -1,16 +1,13 @@
 -- `pair_dense::store` meets its contract. The invariant: all of the result but what it has ahead is stored. Assumes nothing.
 use mathlib.Core.Path.{sym, ◌∙◌}
-use Prim.Native.Nat.{◌-◌}
 use native.Mathlib.Omega.{arith}
-use Rattle.lists.proofs.Stores.{Storing, Storing_run, storing_end, sets_front}
+use Rattle.lists.proofs.Stores.{Storing_run, storing_end, sets_front}
 use Rattle.rules.specs.Limits.Laws.{largest_coded}
-use Rattle.rules.specs.Limits.{no_step}
 use Rattle.image.specs.Taken.{steps_of}
 use Rattle.image_directory.proofs.Whole.{payload_within}
 use Rattle.pair_window.proofs.Words.{words_empty}
 use Rattle.pair_operation.specs.Result.{result_of}
 use Rattle.pair_dense.specs.Inside.Words.{steps_in}
-use Rattle.pair_dense.specs.Inside.Walks.{Together, result_ahead}
 use Rattle.pair_dense.proofs.Walking.{Storing_all, together_end}
 use Rattle.pair_dense.proofs.Windows.{passes_room}
 use Rattle.pair_dense.proofs.store.Goals as goal
@@ -36,9 +33,9 @@ loop-m-smaller c = c.lay_both-m.ensures.past
 
 pub loop-m-preserved : goal.loop-m-preserved
 loop-m-preserved c = (
-      c.lay_both-m.ensures.together,
-      Storing_run c.loop-m.invariant.1 (steps_in c.args.op c.loop-m.m.next c.lay_both-m.new.left c.lay_both-m.new.right) _ (c.lay_both-m.ensures.turn c.args.op) c.put_window-n.ensures.place c.put_window-n.ensures.stores,
-    )
+  c.lay_both-m.ensures.together,
+  Storing_run c.loop-m.invariant.1 (steps_in c.args.op c.loop-m.m.next c.lay_both-m.new.left c.lay_both-m.new.right) _ (c.lay_both-m.ensures.turn c.args.op) c.put_window-n.ensures.place c.put_window-n.ensures.stores,
+)
 
 pub shape_of-steps : goal.shape_of-steps
 shape_of-steps c = c.loop-m.invariant.1.same

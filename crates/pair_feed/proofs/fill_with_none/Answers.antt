@@ -1,8 +1,7 @@
 -- `pair_feed::fill_with_none` meets its contract: place by place. Assumes nothing.
 use mathlib.Core.Path.{◌≡◌, refl, ◌∙◌}
-use Prim.Native.Nat.{ℕ, ◌-◌, ◌≤◌, ◌<◌}
 use native.Mathlib.Omega.{arith}
-use lib.ListN.{length, get_or, length-set}
+use lib.ListN.{length-set}
 use Rattle.rules.specs.Limits.Laws.{largest_coded}
 use Rattle.rules.specs.Limits.{no_step}
 use Rattle.pair_feed.proofs.Filling.{none_more}

@@ -1,11 +1,8 @@
 -- `pair_feed::fill_with_none` meets its contract: place by place. Assumes nothing.
-use mathlib.Core.Path.{◌≡◌, refl, ◌∙◌}
+use mathlib.Core.Path.{◌≡◌}
 use Prim.Native.Nat.{ℕ, ◌-◌, ◌≤◌, ◌<◌}
-use native.Mathlib.Omega.{arith}
-use lib.ListN.{length, get_or, length-set}
-use Rattle.rules.specs.Limits.Laws.{largest_coded}
+use lib.ListN.{length, get_or}
 use Rattle.rules.specs.Limits.{no_step}
-use Rattle.pair_feed.proofs.Filling.{none_more}
 use Rattle.pair_feed.proofs.fill_with_none.Given as goal
 
 abbrev pub invariant-loop-i : goal.invariant-loop-i

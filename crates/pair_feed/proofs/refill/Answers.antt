@@ -1,7 +1,7 @@
 -- `pair_feed::refill` meets its contract: past the last step all numbers say so; else each turn stores some steps. Assumes nothing.
 use mathlib.Core.Path.{◌≡◌, sym, ◌∙◌}
 use mathlib.Core.List.{List}
-use Prim.Native.Nat.{ℕ, ◌-◌, ◌<◌}
+use Prim.Native.Nat.{ℕ, ◌<◌}
 use native.Mathlib.Omega.{arith}
 use lib.ListN.{length}
 use Rattle.image_walk.specs.Walk.{ahead}
@@ -18,14 +18,14 @@ sized : (c : After-slice_known-then-none-w-1) → length c.fill_with_none.new.st
 sized c = omega arith
 
 -- what has grown from the first turn on shows the steps from the walk on
-ends-Then-none-f : (c : Then-none-f) →{g : Feed} {after : List ℕ}
+ends-Then-none-f : (c : Then-none-f) → {g : Feed} {after : List ℕ}
     → Grown c.args.image.now c.args.payload.now c.on-f.result c.on-f.new.steps g after
     → Fed c.args.image.now c.args.payload.now g after (ahead c.args.image.now c.args.payload.now c.args.w) × (g.at < g.end)
 ends-Then-none-f c k =
     (Fed-Grown c.requires.stands (Grown_more c.on-f.ensures.0 k), omega (arith, k.from, k.longer, c.on-f.ensures.0.from, c.on-f.ensures.1))
 
 -- what has grown from the first turn on shows the steps from the walk on
-ends-After-loop-f : (c : After-loop-f) →{g : Feed} {after : List ℕ}
+ends-After-loop-f : (c : After-loop-f) → {g : Feed} {after : List ℕ}
     → Grown c.args.image.now c.args.payload.now c.on-f.result c.on-f.new.steps g after
     → Fed c.args.image.now c.args.payload.now g after (ahead c.args.image.now c.args.payload.now c.args.w) × (g.at < g.end)
 ends-After-loop-f c k =

@@ -51,10 +51,13 @@ pub returns-then-v-ne0 : goal.returns-then-v-ne0
 returns-then-v-ne0 c = first-laid-Then-v-ne0 c
 
 pub lay_run-requires : goal.lay_run-requires
-lay_run-requires c = let l = first-laid-After-lay_run-arg-1 c in record { placed = (c.next_code-v.ensures.0.placed, (c.if-v-ne0.false, omega (arith, c.if-v.false))); from_le_step = (
-        later_from c.args.image.now c.args.payload.now c.args.w c.requires.0 (omega arith) c.args.from l.laid c.next_code-v.result c.requires.1.0.0 l.split,
-        omega (arith, sized-After-lay_run-arg-1 c, c.requires.1.0),
-      ) }
+lay_run-requires c = let l = first-laid-After-lay_run-arg-1 c in record {
+  placed = (c.next_code-v.ensures.0.placed, (c.if-v-ne0.false, omega (arith, c.if-v.false)));
+  from_le_step = (
+    later_from c.args.image.now c.args.payload.now c.args.w c.requires.0 (omega arith) c.args.from l.laid c.next_code-v.result c.requires.1.0.0 l.split,
+    omega (arith, sized-After-lay_run-arg-1 c, c.requires.1.0),
+  );
+}
 
 pub returns : goal.returns
 returns c = Lays_run (first-laid-After-slice_known-3-1 c) (sized-After-slice_known-3-1 c) (on-code c) c.lay_run.ensures

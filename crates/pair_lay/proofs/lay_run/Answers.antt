@@ -1,7 +1,6 @@
 -- `pair_lay::lay_run` meets its contract: after the fours, each turn lays the walk's step and moves to the next. Assumes nothing.
 use mathlib.Core.Path.{◌≡◌, sym, subst}
-use mathlib.Core.List.{List}
-use Prim.Native.Nat.{ℕ, ◌-◌, ◌<◌}
+use Prim.Native.Nat.{◌<◌}
 use native.Mathlib.Omega.{arith}
 use lib.ListN.{length}
 use Rattle.rules.specs.Limits.Laws.{largest_coded}

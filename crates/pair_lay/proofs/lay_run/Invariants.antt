@@ -1,14 +1,8 @@
 -- `pair_lay::lay_run` meets its contract: after the fours, each turn lays the walk's step and moves to the next. Assumes nothing.
-use mathlib.Core.Path.{◌≡◌, sym, subst}
 use mathlib.Core.List.{List}
-use Prim.Native.Nat.{ℕ, ◌-◌, ◌<◌}
-use native.Mathlib.Omega.{arith}
-use lib.ListN.{length}
-use Rattle.rules.specs.Limits.Laws.{largest_coded}
-use Rattle.code.specs.Code.{code_values}
+use Prim.Native.Nat.{ℕ, ◌-◌}
 use Rattle.image_walk.specs.Turns.{coded_walk}
 use Rattle.pair_lay.specs.Inside.Runs.{Ran}
-use Rattle.pair_lay.proofs.Running.{Ran_turn}
 use Rattle.pair_lay.proofs.lay_run.Given as goal
 
 -- what the fours laid over any window, and these turns after them

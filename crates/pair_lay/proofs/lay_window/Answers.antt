@@ -31,12 +31,12 @@ loop-at-init c = laying_start c.requires.stands.0 refl c.requires.words_value.0
 
 pub lay_loaded-at-requires : goal.lay_loaded-at-requires
 lay_loaded-at-requires c = (
-      c.loop-at.invariant.stands,
-      (
-        laying_from c.loop-at.invariant c.requires.stands.0 (omega arith) c.requires.stands.1,
-        (omega (arith, c.loop-at-test.true, c.lower-top.ensures, c.loop-at.invariant.size), (omega (arith, c.loop-at-test.true, c.lower-top.ensures, c.no_step-none.ensures), omega (arith, c.loop-at.invariant.size, c.requires.words_value.1))),
-      ),
-    )
+  c.loop-at.invariant.stands,
+  (
+    laying_from c.loop-at.invariant c.requires.stands.0 (omega arith) c.requires.stands.1,
+    (omega (arith, c.loop-at-test.true, c.lower-top.ensures, c.loop-at.invariant.size), (omega (arith, c.loop-at-test.true, c.lower-top.ensures, c.no_step-none.ensures), omega (arith, c.loop-at.invariant.size, c.requires.words_value.1))),
+  ),
+)
 
 pub loop-at-smaller : goal.loop-at-smaller
 loop-at-smaller c = (turn c).1

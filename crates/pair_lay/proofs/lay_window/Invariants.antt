@@ -1,11 +1,7 @@
 -- `pair_lay::lay_window` meets its contract: each turn lays some steps ahead, until the next is past the window or there is none. Assumes nothing.
-use mathlib.Core.Path.{refl}
-use Prim.Native.Nat.{◌<◌}
-use native.Mathlib.Omega.{arith}
 use lib.ListN.{length}
-use Rattle.rules.specs.Limits.Laws.{largest_coded}
 use Rattle.image_walk.specs.Walk.{ahead}
-use Rattle.pair_lay.proofs.Laying.{LayingWindow, laying_start, laying_from, laying_turn, laying_end}
+use Rattle.pair_lay.proofs.Laying.{LayingWindow}
 use Rattle.pair_lay.proofs.lay_window.Given as goal
 
 abbrev pub invariant-loop-at : goal.invariant-loop-at

@@ -1,6 +1,6 @@
 -- `pair_lay_row::lay_words` meets its contract: each turn lays the next word of the row, and the row's last is left. Assumes nothing.
 use mathlib.Core.Path.{◌≡◌, ap, ◌∙◌, subst}
-use Prim.Native.Nat.{ℕ, ◌+◌, ◌-◌, ◌*◌, ◌≤◌}
+use Prim.Native.Nat.{ℕ, ◌+◌, ◌*◌}
 use native.Mathlib.Omega.{arith}
 use Rattle.rules.specs.Numbers.{little}
 use Rattle.row.specs.Words.{word_bytes}
@@ -54,11 +54,11 @@ loop-i-smaller c = omega arith
 
 pub loop-i-preserved : goal.loop-i-preserved
 loop-i-preserved c = let at = c.args.p.at + word_bytes * c.loop-i.i in (
-      omega arith,
-      rowing_turn c.args.payload.now c.args.p c.args.from c.args.words.now c.loop-i.i c.loop-i.words c.loop-i.invariant.1
-          (λ j. omega (arith, c.type_inv.payload j)) c.requires.from_le_from.0 c.word-bits.result
-          (c.word-bits.ensures ∙ ap little (word_part c.args.payload.now at c.args.p.end (omega arith))) _ (omega arith) c.lay.ensures,
-    )
+  omega arith,
+  rowing_turn c.args.payload.now c.args.p c.args.from c.args.words.now c.loop-i.i c.loop-i.words c.loop-i.invariant.1
+      (λ j. omega (arith, c.type_inv.payload j)) c.requires.from_le_from.0 c.word-bits.result
+      (c.word-bits.ensures ∙ ap little (word_part c.args.payload.now at c.args.p.end (omega arith))) _ (omega arith) c.lay.ensures,
+)
 
 pub overflow_mul-result : goal.overflow_mul-result
 overflow_mul-result c = omega arith

@@ -1,11 +1,7 @@
 -- `pair_thin::put` meets its contract: the numbers from `i` on are left to store. Assumes nothing.
-use mathlib.Core.Path.{refl}
-use mathlib.Core.List.{[], ◌∷◌}
 use Prim.Native.Nat.{◌+◌, ◌-◌, ◌≤◌}
-use native.Mathlib.Omega.{arith}
-use lib.ListN.{length, get_or, drop, drop_of_length-le}
-use Rattle.lists.proofs.Parts.{drop_one}
-use Rattle.lists.proofs.Stores.{Storing, Storing_start, Storing_run, storing_end}
+use lib.ListN.{length, drop}
+use Rattle.lists.proofs.Stores.{Storing}
 use Rattle.pair_thin.proofs.put.Given as goal
 
 abbrev pub invariant-loop-i : goal.invariant-loop-i

@@ -9,9 +9,8 @@ use Rattle.rules.specs.Limits.{no_step}
 use Rattle.image.specs.Taken.{steps_of}
 use Rattle.image_directory.proofs.Whole.{payload_within}
 use Rattle.pair_operation.specs.Result.{result_of}
-use Rattle.pair_thin.specs.Inside.Round.{result_to_come, steps_to_come}
-use Rattle.pair_thin.proofs.Coming.{ready_end, start_is, Rounds, Rounds_start, Rounds_turn, rounds_counted}
-use Rattle.pair_thin.proofs.Keeping.{Keeping, keeping_start, Keeping_run, keeping_end}
+use Rattle.pair_thin.proofs.Coming.{ready_end, start_is, Rounds_start, Rounds_turn, rounds_counted}
+use Rattle.pair_thin.proofs.Keeping.{keeping_start, Keeping_run, keeping_end}
 use Rattle.pair_thin.proofs.store_with.Goals as goal
 
 pub payload-first_payload-requires : goal.payload-first_payload-requires
@@ -25,9 +24,9 @@ start-m-requires c = record { taken = (c.requires.taken.0, c.payload-first_paylo
 
 pub loop-m-init : goal.loop-m-init
 loop-m-init c = (
-      Rounds_start c.args.op c.args.kept.now c.start-m.ensures refl refl,
-      keeping_start c.args.steps.now (result_of c.args.op (steps_of c.args.first.now) (steps_of c.args.second.now)) (sym (start_is c.args.op c.start-m.ensures)),
-    )
+  Rounds_start c.args.op c.args.kept.now c.start-m.ensures refl refl,
+  keeping_start c.args.steps.now (result_of c.args.op (steps_of c.args.first.now) (steps_of c.args.second.now)) (sym (start_is c.args.op c.start-m.ensures)),
+)
 
 pub round-m-requires : goal.round-m-requires
 round-m-requires c = record { ready = (c.loop-m.invariant.0.ready, omega (arith, c.no_step-end.ensures)); small = (((omega (arith, c.loop-m.invariant.0.first, c.requires.small), omega (arith, c.loop-m.invariant.0.first, c.requires.small)), (omega (arith, c.loop-m.invariant.0.second, c.requires.small), omega (arith, c.loop-m.invariant.0.second, c.requires.small))), omega (arith, c.loop-m.invariant.0.first, c.loop-m.invariant.0.third, c.requires.small)) }
@@ -46,9 +45,9 @@ loop-m-smaller c = c.round-m.ensures.less
 
 pub loop-m-preserved : goal.loop-m-preserved
 loop-m-preserved c = (
-      Rounds_turn c.round-m.ensures c.loop-m.invariant.0 c.left-in-loop-m-1.given c.right-in-loop-m-1.given c.kept-1.given,
-      Keeping_run c.loop-m.invariant.1 (take c.round-m.result.kept c.round-m.new.kept) _ c.round-m.ensures.is (omega (arith, c.round-m.ensures.within, length-take c.round-m.result.kept c.round-m.new.kept)) c.steps-1.given c.put.ensures,
-    )
+  Rounds_turn c.round-m.ensures c.loop-m.invariant.0 c.left-in-loop-m-1.given c.right-in-loop-m-1.given c.kept-1.given,
+  Keeping_run c.loop-m.invariant.1 (take c.round-m.result.kept c.round-m.new.kept) _ c.round-m.ensures.is (omega (arith, c.round-m.ensures.within, length-take c.round-m.result.kept c.round-m.new.kept)) c.steps-1.given c.put.ensures,
+)
 
 pub shape_of-steps : goal.shape_of-steps
 shape_of-steps c = c.loop-m.invariant.1.same

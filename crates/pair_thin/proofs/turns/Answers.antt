@@ -1,9 +1,8 @@
 -- `pair_thin::turns` meets its contract: each turn of the loop, and the last one after it, is a turn of `Turning`. Assumes nothing.
-use Prim.Native.Nat.{◌+◌, ◌-◌, ◌≤◌, min}
+use Prim.Native.Nat.{◌+◌}
 use native.Mathlib.Omega.{arith}
 use lib.Dec.{leb}
-use lib.ListN.{length}
-use Rattle.pair_thin.proofs.Turning.{bool_most, Going, going_start, Going_turn, going_end}
+use Rattle.pair_thin.proofs.Turning.{bool_most, going_start, Going_turn, going_end}
 use Rattle.pair_thin.proofs.turns.Goals as goal
 
 pub overflow_cast-x : goal.overflow_cast-x
@@ -35,10 +34,10 @@ overflow_add-j c = omega (arith, bool_most (leb c.loop-t.y c.loop-t.x))
 
 pub loop-t-preserved : goal.loop-t-preserved
 loop-t-preserved c = (
-      omega arith,
-      Going_turn c.loop-t.invariant.1 (omega arith) (omega arith) c.requires.1.1.0 _ _ c.keeps.ensures c.lower.ensures
-          c.chosen-x.ensures c.chosen-y.ensures,
-    )
+  omega arith,
+  Going_turn c.loop-t.invariant.1 (omega arith) (omega arith) c.requires.1.1.0 _ _ c.keeps.ensures c.lower.ensures
+      c.chosen-x.ensures c.chosen-y.ensures,
+)
 
 pub overflow_cast-kept-2 : goal.overflow_cast-kept-2
 overflow_cast-kept-2 c = omega (arith, c.lower-2.ensures, c.loop-t.invariant.1.first_next, c.type_inv.left c.loop-t.i)

@@ -1,9 +1,7 @@
 -- `pair_thin::turns` meets its contract: each turn of the loop, and the last one after it, is a turn of `Turning`. Assumes nothing.
-use Prim.Native.Nat.{◌+◌, ◌-◌, ◌≤◌, min}
-use native.Mathlib.Omega.{arith}
-use lib.Dec.{leb}
+use Prim.Native.Nat.{◌-◌, ◌≤◌, min}
 use lib.ListN.{length}
-use Rattle.pair_thin.proofs.Turning.{bool_most, Going, going_start, Going_turn, going_end}
+use Rattle.pair_thin.proofs.Turning.{Going}
 use Rattle.pair_thin.proofs.turns.Given as goal
 
 abbrev pub invariant-loop-t : goal.invariant-loop-t

@@ -52,16 +52,16 @@ codes-is-After-word-then-other-upto c = c.requires.0.codes c.args.i (omega arith
 codes-is-After-word-2 : (c : After-word-2) → get_or c.args.work.now (length c.args.list.now + c.args.i) 0 ≡ codes_at c.args.list.now c.args.i
 codes-is-After-word-2 c = c.requires.0.codes c.args.i (omega arith) c.requires.1
 
-few-After-codes_end : (c : After-codes_end) →{r : ℕ} → r ≤ length c.args.list.now → r ≤ most_steps
+few-After-codes_end : (c : After-codes_end) → {r : ℕ} → r ≤ length c.args.list.now → r ≤ most_steps
 few-After-codes_end c h = omega (arith, (listed-After-codes_end c).few)
 
-few-Then-row-codes : (c : Then-row-codes) →{r : ℕ} → r ≤ length c.args.list.now → r ≤ most_steps
+few-Then-row-codes : (c : Then-row-codes) → {r : ℕ} → r ≤ length c.args.list.now → r ≤ most_steps
 few-Then-row-codes c h = omega (arith, (listed-Then-row-codes c).few)
 
-few-Then-other-upto : (c : Then-other-upto) →{r : ℕ} → r ≤ length c.args.list.now → r ≤ most_steps
+few-Then-other-upto : (c : Then-other-upto) → {r : ℕ} → r ≤ length c.args.list.now → r ≤ most_steps
 few-Then-other-upto c h = omega (arith, (listed-Then-other-upto c).few)
 
-few-Else-other-upto : (c : Else-other-upto) →{r : ℕ} → r ≤ length c.args.list.now → r ≤ most_steps
+few-Else-other-upto : (c : Else-other-upto) → {r : ℕ} → r ≤ length c.args.list.now → r ≤ most_steps
 few-Else-other-upto c h = omega (arith, (listed-Else-other-upto c).few)
 
 pub word-requires : goal.word-requires

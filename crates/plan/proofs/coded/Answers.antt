@@ -1,9 +1,7 @@
 -- `plan::coded` meets its contract. The loop is a scan that passes all ranks of a look at once. Assumes nothing.
-use Prim.Native.Nat.{◌-◌}
 use native.Mathlib.Omega.{arith}
-use lib.ListN.{length}
 use Rattle.rules.specs.Limits.Laws.{most_counted}
-use Rattle.plan.specs.Inside.Work.{stride, GoesOn, Scanning}
+use Rattle.plan.specs.Inside.Work.{stride}
 use Rattle.plan.proofs.Scans.{scan_start, scan_many}
 use Rattle.plan.proofs.Passes.{ready_on}
 use Rattle.plan.proofs.coded.Goals as goal

@@ -2,11 +2,10 @@
 -- there on.
 -- Assumes nothing.
 use mathlib.Core.Path.{◌≡◌}
-use Prim.Native.Nat.{◌+◌, ◌-◌}
+use Prim.Native.Nat.{◌+◌}
 use native.Mathlib.Omega.{arith}
 use lib.ListN.{length, get_or}
 use Rattle.plan.specs.Inside.Ahead.{codes_at}
-use Rattle.plan.specs.Inside.Work.{GoesOn, Scanning}
 use Rattle.plan.proofs.Ranks.{goes_on, goes_not}
 use Rattle.plan.proofs.Scans.{scan_on, scan_stop, scan_end}
 use Rattle.plan.proofs.Passes.{ready_on}

@@ -1,11 +1,10 @@
 -- `plan::covered` meets its contract. The loop is a scan that passes many ranks at a look at the last of them. Assumes nothing.
 use mathlib.Core.Path.{◌≡◌}
-use Prim.Native.Nat.{◌+◌, ◌-◌, ◌≤◌}
+use Prim.Native.Nat.{◌+◌, ◌≤◌}
 use native.Mathlib.Omega.{arith}
 use lib.ListN.{length, get_or}
 use Rattle.rules.specs.Limits.Laws.{most_counted}
 use Rattle.plan.specs.Inside.Ahead.{reach_at}
-use Rattle.plan.specs.Inside.Work.{Scanning}
 use Rattle.plan.proofs.Ranks.{reach_rises}
 use Rattle.plan.proofs.Scans.{scan_start, scan_many}
 use Rattle.plan.proofs.covered.Goals as goal

@@ -2,15 +2,14 @@
 -- rank `k`.
 -- Assumes nothing.
 use mathlib.Core.Path.{◌≡◌, sym, ◌∙◌}
-use mathlib.Core.Logic.{⊎_elim}
 use mathlib.Core.Bool.{false}
-use Prim.Native.Nat.{ℕ, ◌+◌, ◌-◌, ◌<◌, ◌≤◌}
+use Prim.Native.Nat.{ℕ, ◌+◌, ◌<◌, ◌≤◌}
 use native.Mathlib.Omega.{arith}
 use borrow.Author.Count.{below_more}
 use lib.ListN.{length, get_or}
 use Rattle.rules.specs.Limits.Laws.{most_counted}
 use Rattle.plan.specs.Inside.Ahead.{codes_at}
-use Rattle.plan.specs.Inside.Work.{GoesOn, AllGoOn}
+use Rattle.plan.specs.Inside.Work.{GoesOn}
 use Rattle.plan.proofs.Ranks.{goes_on}
 use Rattle.plan.proofs.Passes.{ready_on}
 use Rattle.plan.proofs.ends_within.Goals as goal
@@ -58,14 +57,14 @@ loop-k-smaller c = omega (arith, c.loop-k-test.true)
 
 pub loop-k-preserved : goal.loop-k-preserved
 loop-k-preserved c = (
-      omega (arith, c.loop-k.invariant.0),
-      elim c.if-row_later-work.branch [
-        | then-row_later-work w ↦ λ e. let z : ◌≡◌ {A = ℕ} 0 1 = cc in absurd (omega arith)
-        | else-row_later-work w ↦ λ e.
-          below_more (λ u. c.args.j ≤ u → GoesOn c.args.list.now u) c.loop-k.k (c.loop-k.invariant.1 (sym w.any-is ∙ e))
-          (λ g. goes_on c.args.list.now c.loop-k.k (within-Joined-row_later-work c) (word c) c.row_later.ensures (omega (arith, w.if-row_later-work.false)))
-      ],
-    )
+  omega (arith, c.loop-k.invariant.0),
+  elim c.if-row_later-work.branch [
+    | then-row_later-work w ↦ λ e. let z : ◌≡◌ {A = ℕ} 0 1 = cc in absurd (omega arith)
+    | else-row_later-work w ↦ λ e.
+        below_more (λ u. c.args.j ≤ u → GoesOn c.args.list.now u) c.loop-k.k (c.loop-k.invariant.1 (sym w.any-is ∙ e))
+        (λ g. goes_on c.args.list.now c.loop-k.k (within-Joined-row_later-work c) (word c) c.row_later.ensures (omega (arith, w.if-row_later-work.false)))
+  ],
+)
 
 pub returns : goal.returns
 returns c = λ e u h g. c.loop-k.invariant.1 e u (omega arith) g

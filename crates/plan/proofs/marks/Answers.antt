@@ -1,10 +1,8 @@
 -- `plan::marks` meets its contract. The loop's invariant: the blocks that end at rank `i` are marked, and the numbers ahead still stand from
 -- there on.
 -- Assumes nothing.
-use Prim.Native.Nat.{◌-◌}
 use native.Mathlib.Omega.{arith}
-use lib.ListN.{length}
-use Rattle.plan.proofs.Marking.{Marking, Marking_start, Chosen_upto, Marking_turn, Marking_end}
+use Rattle.plan.proofs.Marking.{Marking_start, Chosen_upto, Marking_turn, Marking_end}
 use Rattle.plan.proofs.marks.Goals as goal
 
 pub loop-i-init : goal.loop-i-init

@@ -2,9 +2,8 @@
 -- there on.
 -- Assumes nothing.
 use Prim.Native.Nat.{◌-◌}
-use native.Mathlib.Omega.{arith}
 use lib.ListN.{length}
-use Rattle.plan.proofs.Marking.{Marking, Marking_start, Chosen_upto, Marking_turn, Marking_end}
+use Rattle.plan.proofs.Marking.{Marking}
 use Rattle.plan.proofs.marks.Given as goal
 
 abbrev pub invariant-loop-i : goal.invariant-loop-i

@@ -1,14 +1,11 @@
 -- `plan::row_end` meets its contract. The loop is a scan past the ranks whose reach a row of `r` bytes covers.
 -- Assumes nothing.
 use mathlib.Core.Path.{◌≡◌}
-use Prim.Native.Nat.{◌+◌, ◌*◌, ◌≤◌, ◌-◌}
 use native.Mathlib.Omega.{arith}
-use lib.ListN.{length, get_or}
+use lib.ListN.{get_or}
 use Rattle.lists.specs.Rising.{past}
-use Rattle.row.specs.Row.{byte_bits}
 use Rattle.plan.specs.Inside.Ahead.{reach_at}
 use Rattle.plan.proofs.Ranks.{fits}
-use Rattle.plan.specs.Inside.Work.{Scanning}
 use Rattle.plan.proofs.Scans.{scan_as, scan_on, scan_stop, scan_end}
 use Rattle.plan.proofs.row_end.Goals as goal
 use Rattle.plan.proofs.row_end.Goals.{Else-top-work, Then-top-work}

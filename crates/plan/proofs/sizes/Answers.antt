@@ -1,7 +1,7 @@
 -- `plan::sizes` meets its contract. The loop's invariant: the codes of the ranks below `i`, of which there is one at the least, are sized.
 -- Assumes nothing.
 use mathlib.Core.Path.{◌≡◌, refl, ◌∙◌}
-use Prim.Native.Nat.{◌+◌, ◌-◌, ◌<◌, ◌≤◌}
+use Prim.Native.Nat.{◌+◌, ◌-◌, ◌≤◌}
 use native.Mathlib.Omega.{arith}
 use lib.ListN.{length, get_or, set}
 use Rattle.lists.specs.Rising.{past}
@@ -73,9 +73,9 @@ bounds-work-n-in-loop-i c = omega (arith, c.loop-i-test.true, room c)
 
 pub loop-i-preserved : goal.loop-i-preserved
 loop-i-preserved c = (
-      omega arith,
-      Sizing_turn c.loop-i.invariant.1 c.loop-i-test.true (room c) refl (omega (arith, from_is-After-size-in-loop-i c)) c.size-in-loop-i.ensures,
-    )
+  omega arith,
+  Sizing_turn c.loop-i.invariant.1 c.loop-i-test.true (room c) refl (omega (arith, from_is-After-size-in-loop-i c)) c.size-in-loop-i.ensures,
+)
 
 pub shape_of-work : goal.shape_of-work
 shape_of-work c = c.loop-i.invariant.1.kept.same ∙ (first-After-loop-i c).kept.same

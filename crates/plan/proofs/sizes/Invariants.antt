@@ -1,14 +1,8 @@
 -- `plan::sizes` meets its contract. The loop's invariant: the codes of the ranks below `i`, of which there is one at the least, are sized.
 -- Assumes nothing.
-use mathlib.Core.Path.{◌≡◌, refl, ◌∙◌}
-use Prim.Native.Nat.{◌+◌, ◌-◌, ◌<◌, ◌≤◌}
-use native.Mathlib.Omega.{arith}
-use lib.ListN.{length, get_or, set}
-use Rattle.lists.specs.Rising.{past}
-use Rattle.lists.proofs.Ranks.{past_suc}
-use Rattle.rules.specs.Sizes.{work_for}
-use Rattle.plan.proofs.Ranks.{StepFits, step_fits}
-use Rattle.plan.proofs.Passes.{Kept_none, kept_trans, Sizing, Sizing_start, Sizing_turn, Sizing_from, sized_fits}
+use Prim.Native.Nat.{◌-◌, ◌<◌}
+use lib.ListN.{length}
+use Rattle.plan.proofs.Passes.{Sizing}
 use Rattle.plan.proofs.sizes.Given as goal
 
 abbrev pub invariant-loop-i : goal.invariant-loop-i

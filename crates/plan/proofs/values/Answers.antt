@@ -8,7 +8,7 @@ use lib.ListN.{length, get_or}
 use Rattle.lists.specs.Rising.{past}
 use Rattle.lists.proofs.Ranks.{past_suc}
 use Rattle.plan.proofs.Ranks.{step_fits}
-use Rattle.plan.proofs.Passes.{Kept_none, Ready_none, Valuing, Valuing_start, turn_fits, turn_Ready, turn_Kept, grow_fits, Valuing-Turn}
+use Rattle.plan.proofs.Passes.{Kept_none, Ready_none, Valuing_start, turn_fits, turn_Ready, turn_Kept, grow_fits, Valuing-Turn}
 use Rattle.plan.proofs.values.Goals as goal
 use Rattle.plan.proofs.values.Goals.{After-grow-turn, After-shared_slice_known-in-loop-i-1}
 

@@ -1,7 +1,7 @@
 -- `read::blocks` meets its contract. The loop's invariant is `Checking`: a block that has no number goes on, one that has a number halts.
 -- Assumes nothing.
 use mathlib.Core.Path.{sym, ap, ◌∙◌, subst}
-use Prim.Native.Nat.{◌+◌, ◌-◌}
+use Prim.Native.Nat.{◌+◌}
 use native.Mathlib.Omega.{arith}
 use lib.ListN.{length}
 use Rattle.image.specs.declared.Before.{Before}

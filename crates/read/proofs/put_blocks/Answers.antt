@@ -1,6 +1,6 @@
 -- `read::put_blocks` meets its contract. The loop's invariant is `Putting`: each turn stores the steps of one block. Assumes nothing.
 use mathlib.Core.Path.{sym, subst}
-use Prim.Native.Nat.{◌+◌, ◌-◌}
+use Prim.Native.Nat.{◌+◌}
 use native.Mathlib.Omega.{arith}
 use lib.ListN.{length}
 use Rattle.image.specs.declared.Before.{Before}
@@ -29,9 +29,9 @@ slice_bounds-put_steps-end c = omega (arith, (clean c).within)
 
 pub put_steps-at-requires : goal.put_steps-at-requires
 put_steps-at-requires c = (
-      putting_sound c.loop-i.invariant c.entry-e.result c.entry-e.ensures.0 c.loop-i-test.true c.requires.sound.few,
-      putting_room c.loop-i.invariant c.entry-e.result c.entry-e.ensures.0 c.loop-i-test.true c.requires.sound.few,
-    )
+  putting_sound c.loop-i.invariant c.entry-e.result c.entry-e.ensures.0 c.loop-i-test.true c.requires.sound.few,
+  putting_room c.loop-i.invariant c.entry-e.result c.entry-e.ensures.0 c.loop-i-test.true c.requires.sound.few,
+)
 
 pub loop-i-preserved : goal.loop-i-preserved
 loop-i-preserved c = subst

@@ -1,9 +1,9 @@
 -- `row::end` meets its contract. The invariant: the bytes from place i on have no ones. Assumes nothing.
 use mathlib.Core.Path.{◌≡◌, sym, ap, ◌∙◌}
-use Prim.Native.Nat.{ℕ, ◌≤◌}
+use Prim.Native.Nat.{ℕ}
 use native.Mathlib.Omega.{arith}
 use lib.Count.{leading_le}
-use lib.ListN.{length, take}
+use lib.ListN.{take}
 use lib.Seq.{take-length}
 use Rattle.lists.specs.Rising.{beyond}
 use Rattle.row.specs.Row.{row_steps}

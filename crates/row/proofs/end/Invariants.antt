@@ -1,14 +1,8 @@
 -- `row::end` meets its contract. The invariant: the bytes from place i on have no ones. Assumes nothing.
-use mathlib.Core.Path.{◌≡◌, sym, ap, ◌∙◌}
-use Prim.Native.Nat.{ℕ, ◌≤◌}
-use native.Mathlib.Omega.{arith}
-use lib.Count.{leading_le}
+use mathlib.Core.Path.{◌≡◌}
+use Prim.Native.Nat.{◌≤◌}
 use lib.ListN.{length, take}
-use lib.Seq.{take-length}
-use Rattle.lists.specs.Rising.{beyond}
 use Rattle.row.specs.Row.{row_steps}
-use Rattle.row.proofs.Row.{row_none}
-use Rattle.row.proofs.Places.{last_before, last_here}
 use Rattle.row.proofs.end.Given as goal
 
 abbrev pub invariant-loop-i : goal.invariant-loop-i

@@ -1,10 +1,8 @@
 -- `row::kth` meets its contract. The invariant: the one looked for in the byte is the one looked for in the bits that are left.
 -- Assumes nothing.
-use mathlib.Core.Path.{◌≡◌, sym, ◌∙◌}
-use Prim.Native.Nat.{◌-◌, ◌≤◌}
+use mathlib.Core.Path.{sym, ◌∙◌}
 use native.Mathlib.Omega.{arith}
-use Rattle.row.specs.Row.{kth_one, byte_bits}
-use Rattle.row.proofs.Places.{kth_left, kth_start, kth_here, kth_past, kth_end}
+use Rattle.row.proofs.Places.{kth_start, kth_here, kth_past, kth_end}
 use Rattle.row.proofs.kth.Goals as goal
 
 pub loop-at-init : goal.loop-at-init

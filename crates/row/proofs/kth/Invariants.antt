@@ -1,10 +1,9 @@
 -- `row::kth` meets its contract. The invariant: the one looked for in the byte is the one looked for in the bits that are left.
 -- Assumes nothing.
-use mathlib.Core.Path.{◌≡◌, sym, ◌∙◌}
+use mathlib.Core.Path.{◌≡◌}
 use Prim.Native.Nat.{◌-◌, ◌≤◌}
-use native.Mathlib.Omega.{arith}
 use Rattle.row.specs.Row.{kth_one, byte_bits}
-use Rattle.row.proofs.Places.{kth_left, kth_start, kth_here, kth_past, kth_end}
+use Rattle.row.proofs.Places.{kth_left}
 use Rattle.row.proofs.kth.Given as goal
 
 abbrev pub invariant-loop-at : goal.invariant-loop-at

@@ -1,8 +1,8 @@
 -- `row::last_word` meets its contract. The invariant: the word is the number of the bytes from place i on. Assumes nothing.
 use mathlib.Core.Path.{◌≡◌, sym, ap, ◌∙◌}
-use Prim.Native.Nat.{ℕ, ◌-◌, ◌^◌, ◌≤◌, ◌<◌}
+use Prim.Native.Nat.{ℕ, ◌^◌, ◌<◌}
 use native.Mathlib.Omega.{arith}
-use lib.ListN.{length, drop}
+use lib.ListN.{drop}
 use Rattle.rules.specs.Numbers.{little}
 use Rattle.row.proofs.Words.{little_back, little_end, little-drop-lt}
 use Rattle.row.proofs.last_word.Goals as goal

@@ -1,10 +1,8 @@
 -- `row::last_word` meets its contract. The invariant: the word is the number of the bytes from place i on. Assumes nothing.
-use mathlib.Core.Path.{◌≡◌, sym, ap, ◌∙◌}
-use Prim.Native.Nat.{ℕ, ◌-◌, ◌^◌, ◌≤◌, ◌<◌}
-use native.Mathlib.Omega.{arith}
+use mathlib.Core.Path.{◌≡◌}
+use Prim.Native.Nat.{◌-◌, ◌≤◌}
 use lib.ListN.{length, drop}
 use Rattle.rules.specs.Numbers.{little}
-use Rattle.row.proofs.Words.{little_back, little_end, little-drop-lt}
 use Rattle.row.proofs.last_word.Given as goal
 
 abbrev pub invariant-loop-i : goal.invariant-loop-i

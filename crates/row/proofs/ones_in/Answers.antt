@@ -1,11 +1,6 @@
 -- `row::ones_in` meets its contract: the ones counted and those of the bytes from i on are all. Assumes nothing.
-use mathlib.Core.Path.{◌≡◌, refl}
-use Prim.Native.Nat.{◌+◌, ◌-◌, ◌*◌, ◌%◌, ◌≤◌}
+use mathlib.Core.Path.{refl}
 use native.Mathlib.Omega.{arith}
-use lib.ListN.{length}
-use Rattle.row.specs.Row.{byte_bits, row_steps}
-use Rattle.row.specs.Words.{word_bytes}
-use Rattle.row.proofs.Row.{row_left}
 use Rattle.row.proofs.Words.{length_word, length_rest}
 use Rattle.row.proofs.ones_in.Goals as goal
 

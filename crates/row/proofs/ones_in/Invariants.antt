@@ -1,12 +1,10 @@
 -- `row::ones_in` meets its contract: the ones counted and those of the bytes from i on are all. Assumes nothing.
-use mathlib.Core.Path.{◌≡◌, refl}
+use mathlib.Core.Path.{◌≡◌}
 use Prim.Native.Nat.{◌+◌, ◌-◌, ◌*◌, ◌%◌, ◌≤◌}
-use native.Mathlib.Omega.{arith}
 use lib.ListN.{length}
 use Rattle.row.specs.Row.{byte_bits, row_steps}
 use Rattle.row.specs.Words.{word_bytes}
 use Rattle.row.proofs.Row.{row_left}
-use Rattle.row.proofs.Words.{length_word, length_rest}
 use Rattle.row.proofs.ones_in.Given as goal
 
 abbrev pub invariant-loop-i : goal.invariant-loop-i

@@ -12,9 +12,8 @@ pub overflow_sub-low : goal.overflow_sub-low
 overflow_sub-low c = omega (arith, c.one_at-low.ensures.0, pow_pos (c.args.place % byte_bits))
 
 pub returns : goal.returns
-returns c = let t = c.args.place % byte_bits in
-    (
-      ones_masked c.wide.result t c.one_at-low.result c.ones.result (omega arith) c.one_at-low.ensures.0 c.ones.ensures.0
-          ∙ ap (λ (b : ℕ). length (bits_from t 0 b)) c.wide.ensures.0,
-      c.ones.ensures.1,
-    )
+returns c = let t = c.args.place % byte_bits in (
+  ones_masked c.wide.result t c.one_at-low.result c.ones.result (omega arith) c.one_at-low.ensures.0 c.ones.ensures.0
+      ∙ ap (λ (b : ℕ). length (bits_from t 0 b)) c.wide.ensures.0,
+  c.ones.ensures.1,
+)

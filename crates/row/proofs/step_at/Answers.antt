@@ -1,11 +1,7 @@
 -- `row::step_at` meets its contract: the step looked for is the one at index `left` of the row from byte i on. Assumes nothing.
 use mathlib.Core.Path.{sym, ◌∙◌}
-use Prim.Native.Nat.{◌-◌, ◌≤◌}
 use native.Mathlib.Omega.{arith}
-use lib.ListN.{length}
-use Rattle.row.specs.Row.{row_steps}
-use Rattle.row.proofs.Row.{row_left}
-use Rattle.row.proofs.Seeking.{Seeking, Seeking_row, Seeking_word_past}
+use Rattle.row.proofs.Seeking.{Seeking_row, Seeking_word_past}
 use Rattle.row.proofs.step_at.Goals as goal
 
 pub loop-i-init : goal.loop-i-init
@@ -31,10 +27,10 @@ loop-i-smaller c = omega arith
 
 pub loop-i-preserved : goal.loop-i-preserved
 loop-i-preserved c = (
-      omega arith,
-      Seeking_word_past c.args.from c.args.part.now c.loop-i.i c.loop-i.invariant.1 (λ j. (c.type_inv.part j).fits) c.word_at.result c.ones-n.result
-          (omega arith) c.word_at.ensures c.ones-n.ensures.0 c.if-left-n.false,
-    )
+  omega arith,
+  Seeking_word_past c.args.from c.args.part.now c.loop-i.i c.loop-i.invariant.1 (λ j. (c.type_inv.part j).fits) c.word_at.result c.ones-n.result
+      (omega arith) c.word_at.ensures c.ones-n.ensures.0 c.if-left-n.false,
+)
 
 pub step_from-requires-2 : goal.step_from-requires-2
 step_from-requires-2 c = (omega arith, (omega arith, c.loop-i.invariant.1.within))

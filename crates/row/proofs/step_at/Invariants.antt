@@ -1,11 +1,9 @@
 -- `row::step_at` meets its contract: the step looked for is the one at index `left` of the row from byte i on. Assumes nothing.
-use mathlib.Core.Path.{sym, ◌∙◌}
 use Prim.Native.Nat.{◌-◌, ◌≤◌}
-use native.Mathlib.Omega.{arith}
 use lib.ListN.{length}
 use Rattle.row.specs.Row.{row_steps}
 use Rattle.row.proofs.Row.{row_left}
-use Rattle.row.proofs.Seeking.{Seeking, Seeking_row, Seeking_word_past}
+use Rattle.row.proofs.Seeking.{Seeking}
 use Rattle.row.proofs.step_at.Given as goal
 
 abbrev pub invariant-loop-i : goal.invariant-loop-i

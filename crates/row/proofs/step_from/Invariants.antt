@@ -1,12 +1,8 @@
 -- `row::step_from` meets its contract: the step looked for is the one at index `left` of the row from byte i on. Assumes nothing.
-use mathlib.Core.Path.{ap, ◌∙◌}
-use Prim.Native.Nat.{ℕ, ◌+◌, ◌-◌, ◌*◌}
-use native.Mathlib.Omega.{arith}
+use Prim.Native.Nat.{◌-◌}
 use lib.ListN.{length}
-use Rattle.row.specs.Row.{byte_bits}
 use Rattle.row.proofs.Row.{row_left}
-use Rattle.row.proofs.Places.{kth_most}
-use Rattle.row.proofs.Seeking.{Seeking, byte_most, Seeking-start, seeking_byte_here, Seeking_byte_past, seeking_end}
+use Rattle.row.proofs.Seeking.{Seeking}
 use Rattle.row.proofs.step_from.Given as goal
 
 abbrev pub invariant-loop-i : goal.invariant-loop-i

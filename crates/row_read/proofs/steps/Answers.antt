@@ -15,16 +15,15 @@ slice_bounds-steps_in-end c = sym (length-take-le (length c.args.part.now - 16) 
 
 pub steps_in-k-requires : goal.steps_in-k-requires
 steps_in-k-requires c = let n : ℕ = length c.args.part.now - 16 in (
-      omega (arith, length-take-le n c.args.part.now (omega arith), c.requires.0),
-      omega (arith, length_row_parts c.args.from c.args.part.now n (omega arith), c.requires.1),
-    )
+  omega (arith, length-take-le n c.args.part.now (omega arith), c.requires.0),
+  omega (arith, length_row_parts c.args.from c.args.part.now n (omega arith), c.requires.1),
+)
 
 pub steps_exact-requires-2 : goal.steps_exact-requires-2
-steps_exact-requires-2 c = let n : ℕ = length c.args.part.now - 16 in
-    (
-      omega (arith, length-take-le (length c.args.part.now - n) (drop n c.args.part.now) (omega (arith, length-drop n c.args.part.now)), c.requires.0),
-      omega (arith, c.steps_in-k.ensures.place, c.steps_in-k.auto.out, length_row_parts c.args.from c.args.part.now n (omega arith), c.requires.1),
-    )
+steps_exact-requires-2 c = let n : ℕ = length c.args.part.now - 16 in (
+  omega (arith, length-take-le (length c.args.part.now - n) (drop n c.args.part.now) (omega (arith, length-drop n c.args.part.now)), c.requires.0),
+  omega (arith, c.steps_in-k.ensures.place, c.steps_in-k.auto.out, length_row_parts c.args.from c.args.part.now n (omega arith), c.requires.1),
+)
 
 pub returns : goal.returns
 returns c = let n : ℕ = length c.args.part.now - 16 in

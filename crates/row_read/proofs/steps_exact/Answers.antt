@@ -1,12 +1,11 @@
 -- `row_read::steps_exact` meets its contract: the steps of the bytes from i on are still to be stored. Assumes nothing.
 use mathlib.Core.Path.{refl, ap, ◌∙◌}
-use Prim.Native.Nat.{◌-◌}
 use native.Mathlib.Omega.{arith}
 use lib.ListN.{length}
 use lib.Seq.{length-sets}
 use Rattle.row.specs.Row.{bits_from}
 use Rattle.row_word.specs.Groups.{places_from, counts_from, all_places}
-use Rattle.row_read.proofs.Putting.{Room, Putting, Putting-start, putting_room, Putting_turn, putting_Room_rest, putting_end}
+use Rattle.row_read.proofs.Putting.{Room, Putting-start, putting_room, Putting_turn, putting_Room_rest, putting_end}
 use Rattle.row_read.proofs.steps_exact.Goals as goal
 use Rattle.row_read.proofs.steps_exact.Goals.{After-put_by_table-arg-1}
 

@@ -1,9 +1,9 @@
 -- `row_word::put_full` meets its contract: the bits from place j on are still to be stored. Assumes nothing.
 use mathlib.Core.Path.{◌≡◌, refl, ap}
 use mathlib.Core.List.{List, [], ◌∷◌}
-use Prim.Native.Nat.{ℕ, ◌+◌, ◌-◌, ◌^◌, ◌≤◌}
+use Prim.Native.Nat.{ℕ, ◌+◌, ◌-◌, ◌^◌}
 use native.Mathlib.Omega.{arith}
-use Rattle.lists.proofs.Stores.{Storing, Storing_start, Storing_run, storing_end}
+use Rattle.lists.proofs.Stores.{Storing_start, Storing_run, storing_end}
 use Rattle.row.specs.Row.{bits_from}
 use Rattle.row.specs.Words.{word_bits}
 use Rattle.row.proofs.Bits.{length_full, full_turn, full_end}
@@ -49,6 +49,6 @@ shape_of-out c = c.loop-j.invariant.1.same
 
 pub returns : goal.returns
 returns c = record {
-      place = omega (arith, length_full word_bits c.args.from (2 ^ word_bits - 1) refl);
-      stores = (storing_end c.loop-j.invariant.1 (full_end word_bits c.loop-j.j c.args.from (omega arith))).stores;
-    }
+  place = omega (arith, length_full word_bits c.args.from (2 ^ word_bits - 1) refl);
+  stores = (storing_end c.loop-j.invariant.1 (full_end word_bits c.loop-j.j c.args.from (omega arith))).stores;
+}

@@ -1,8 +1,7 @@
 -- `row_word::put_groups` meets its contract: the groups from bit j on are still to be stored. Assumes nothing.
 use Prim.Native.Nat.{◌-◌}
-use native.Mathlib.Omega.{arith}
 use Rattle.row.specs.Words.{word_bits}
-use Rattle.row_word.proofs.Grouping.{Grouping, Grouping_start, grouping_room, Grouping_turn, grouping_end}
+use Rattle.row_word.proofs.Grouping.{Grouping}
 use Rattle.row_word.proofs.put_groups.Given as goal
 
 abbrev pub invariant-loop-j : goal.invariant-loop-j

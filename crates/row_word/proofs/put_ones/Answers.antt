@@ -2,7 +2,7 @@
 use native.Mathlib.Omega.{arith}
 use lib.Count.{trailing_le}
 use Rattle.row.specs.Words.{word_bits}
-use Rattle.row_word.proofs.Clearing.{Clearing, Clearing_start, clearing_less, clearing_fits, clearing_room, Clearing_turn, clearing_end}
+use Rattle.row_word.proofs.Clearing.{Clearing_start, clearing_less, clearing_fits, clearing_room, Clearing_turn, clearing_end}
 use Rattle.row_word.proofs.put_ones.Goals as goal
 
 pub loop-bits-init : goal.loop-bits-init

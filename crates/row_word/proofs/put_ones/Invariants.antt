@@ -1,8 +1,5 @@
 -- `row_word::put_ones` meets its contract: the ones of the bits that are left are still to be stored. Assumes nothing.
-use native.Mathlib.Omega.{arith}
-use lib.Count.{trailing_le}
-use Rattle.row.specs.Words.{word_bits}
-use Rattle.row_word.proofs.Clearing.{Clearing, Clearing_start, clearing_less, clearing_fits, clearing_room, Clearing_turn, clearing_end}
+use Rattle.row_word.proofs.Clearing.{Clearing}
 use Rattle.row_word.proofs.put_ones.Given as goal
 
 abbrev pub invariant-loop-bits : goal.invariant-loop-bits

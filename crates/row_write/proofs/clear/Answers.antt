@@ -1,9 +1,9 @@
 -- `row_write::clear` meets its contract: the zeros from place b on are still to be stored. Assumes nothing.
 use mathlib.Core.Path.{◌≡◌, refl, ap, ◌∙◌}
 use mathlib.Core.List.{[], ◌∷◌}
-use Prim.Native.Nat.{ℕ, suc, ◌+◌, ◌-◌, ◌≤◌}
+use Prim.Native.Nat.{ℕ, suc, ◌+◌, ◌-◌}
 use native.Mathlib.Omega.{arith}
-use Rattle.lists.proofs.Stores.{Storing, Storing_start, Storing_run, storing_end}
+use Rattle.lists.proofs.Stores.{Storing_start, Storing_run, storing_end}
 use Rattle.row.specs.Row.{bytes_from}
 use Rattle.row.proofs.Written.{length-bytes_from, bytes_from_none, bytes_from_zeros}
 use Rattle.row_write.proofs.clear.Goals as goal

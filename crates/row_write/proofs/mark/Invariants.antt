@@ -1,10 +1,8 @@
 -- `row_write::mark` meets its contract: the marks of the steps from rank k on are left. Assumes nothing.
-use mathlib.Core.Path.{◌≡◌, refl, ap, ◌∙◌}
-use Prim.Native.Nat.{ℕ, ◌-◌, ◌≤◌}
-use native.Mathlib.Omega.{arith}
+use mathlib.Core.Path.{◌≡◌}
+use Prim.Native.Nat.{◌-◌, ◌≤◌}
 use lib.ListN.{length, drop}
 use Rattle.row_write.specs.Inside.Marks.{marked, Markable}
-use Rattle.row_write.proofs.Marking.{mark_from, mark_room, mark_next, mark_turn, mark_fits}
 use Rattle.row_write.proofs.mark.Given as goal
 
 abbrev pub invariant-loop-k : goal.invariant-loop-k

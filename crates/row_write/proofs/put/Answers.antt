@@ -1,10 +1,8 @@
 -- `row_write::put` meets its contract: the marks of the steps from rank i on are left, in bytes that were 0 at first. Assumes nothing.
-use mathlib.Core.Path.{◌≡◌, refl, sym, ap, ◌∙◌}
-use Prim.Native.Nat.{ℕ, ◌+◌, ◌-◌, ◌%◌, ◌≤◌}
+use mathlib.Core.Path.{refl, sym, ap, ◌∙◌}
+use Prim.Native.Nat.{ℕ, ◌+◌}
 use native.Mathlib.Omega.{arith}
-use lib.ListN.{length, drop}
-use Rattle.row.specs.Row.{byte_bits}
-use Rattle.row_write.specs.Inside.Marks.{marked, Markable}
+use lib.ListN.{length}
 use Rattle.row_write.proofs.Marking.{marked_start, mark_start, mark_next, marked_end}
 use Rattle.row_write.proofs.put.Goals as goal
 
@@ -44,10 +42,10 @@ shape_of-out c = c.mark.auto.out ∙ c.loop-i.invariant.2 ∙ c.clear.auto.out
 
 pub returns : goal.returns
 returns c = record {
-      place = ap (λ (k : ℕ). c.args.at + k) c.size-bytes.ensures.0;
-      stores =
-          sym (marked_end c.args.from c.args.at (length c.args.list.now) c.args.list.now _ (omega arith))
-          ∙ c.mark.ensures
-          ∙ c.loop-i.invariant.4
-          ∙ marked_start c.args.from c.args.at _ c.args.list.now c.args.out.now _ c.requires.0 c.size-bytes.ensures.0 c.requires.1 c.clear.ensures;
-    }
+  place = ap (λ (k : ℕ). c.args.at + k) c.size-bytes.ensures.0;
+  stores =
+      sym (marked_end c.args.from c.args.at (length c.args.list.now) c.args.list.now _ (omega arith))
+      ∙ c.mark.ensures
+      ∙ c.loop-i.invariant.4
+      ∙ marked_start c.args.from c.args.at _ c.args.list.now c.args.out.now _ c.requires.0 c.size-bytes.ensures.0 c.requires.1 c.clear.ensures;
+}

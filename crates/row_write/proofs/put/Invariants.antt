@@ -1,11 +1,9 @@
 -- `row_write::put` meets its contract: the marks of the steps from rank i on are left, in bytes that were 0 at first. Assumes nothing.
-use mathlib.Core.Path.{◌≡◌, refl, sym, ap, ◌∙◌}
-use Prim.Native.Nat.{ℕ, ◌+◌, ◌-◌, ◌%◌, ◌≤◌}
-use native.Mathlib.Omega.{arith}
+use mathlib.Core.Path.{◌≡◌}
+use Prim.Native.Nat.{◌-◌, ◌%◌, ◌≤◌}
 use lib.ListN.{length, drop}
 use Rattle.row.specs.Row.{byte_bits}
 use Rattle.row_write.specs.Inside.Marks.{marked, Markable}
-use Rattle.row_write.proofs.Marking.{marked_start, mark_start, mark_next, marked_end}
 use Rattle.row_write.proofs.put.Given as goal
 
 abbrev pub invariant-loop-i : goal.invariant-loop-i

@@ -1,5 +1,4 @@
 -- `rules::largest_step` meets its contract: the constant is the largest step. Assumes nothing.
-use borrow.Author.Rules.{rules}
 use mathlib.Core.Path.{refl}
 use Rattle.rules.specs.Limits.Values.{largest_step}
 use Rattle.rules.proofs.largest_step.Goals as goal

@@ -1,5 +1,4 @@
 -- `rules::most_steps` meets its contract: the constant is the largest number of steps. Assumes nothing.
-use borrow.Author.Rules.{rules}
 use mathlib.Core.Path.{refl}
 use Rattle.rules.specs.Limits.Values.{most_steps}
 use Rattle.rules.proofs.most_steps.Goals as goal

@@ -1,5 +1,4 @@
 -- `rules::no_step` meets its contract: it is one more than the constant. Assumes nothing.
-use borrow.Author.Rules.{rules}
 use mathlib.Core.Path.{refl}
 use Rattle.rules.specs.Limits.Values.{largest_step}
 use Rattle.rules.proofs.no_step.Goals as goal

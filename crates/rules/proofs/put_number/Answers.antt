@@ -1,5 +1,4 @@
 -- `rules::put_number` meets its contract: the four stores are the run of the number's bytes. Assumes nothing.
-use borrow.Author.Rules.{rules}
 use native.Mathlib.Omega.{arith}
 use native.Mathlib.Numerals.{add-one, add-two, add-three}
 use lib.ListN.{length-set}

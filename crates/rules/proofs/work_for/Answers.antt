@@ -1,5 +1,4 @@
 -- `rules::work_for` meets its contract: there are few enough steps that nothing wraps. Assumes nothing.
-use borrow.Author.Rules.{rules}
 use native.Mathlib.Omega.{arith}
 use Rattle.rules.specs.Limits.Laws.{most_counted}
 use Rattle.rules.proofs.work_for.Goals as goal

@@ -1,10 +1,8 @@
 -- `write::clear` meets its contract. The invariant: the first `i` numbers are 0, and the others as they were. Assumes nothing.
-use mathlib.Core.Path.{◌≡◌, refl, ap, ◌∙◌}
-use mathlib.Core.List.{List, ◌++◌}
-use Prim.Native.Nat.{ℕ, ◌-◌, ◌≤◌}
-use native.Mathlib.Omega.{arith}
-use borrow.Author.Fill.{fill_none, fill_more}
-use lib.ListN.{length, drop, replicate, set, length-set}
+use mathlib.Core.Path.{◌≡◌}
+use mathlib.Core.List.{◌++◌}
+use Prim.Native.Nat.{◌-◌, ◌≤◌}
+use lib.ListN.{length, drop, replicate}
 use Rattle.write.proofs.clear.Given as goal
 
 abbrev pub invariant-loop-i : goal.invariant-loop-i

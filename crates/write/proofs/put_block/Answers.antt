@@ -16,10 +16,10 @@ overflow_cast-e c = omega (arith, c.type_inv.list (c.args.word / 2 - 1))
 
 pub returns : goal.returns
 returns c = record {
-      place = c.put_part-next.ensures.place;
-      stores =
-          c.put_entry.ensures
-          ∙ ap (λ (x : Entry). sets c.put_part-next.new.out c.args.at (entry_bytes x))
-          (entry_within c.args.list.now c.args.i c.args.word c.requires.within.2 c.put_part-next.ensures.place)
-          ∙ ap (λ (l : List ℕ). sets l c.args.at (entry_bytes (entry_of c.args.list.now c.args.i (c.args.p - c.args.base) (block_at c.args.word)))) c.put_part-next.ensures.stores;
-    }
+  place = c.put_part-next.ensures.place;
+  stores =
+      c.put_entry.ensures
+      ∙ ap (λ (x : Entry). sets c.put_part-next.new.out c.args.at (entry_bytes x))
+      (entry_within c.args.list.now c.args.i c.args.word c.requires.within.2 c.put_part-next.ensures.place)
+      ∙ ap (λ (l : List ℕ). sets l c.args.at (entry_bytes (entry_of c.args.list.now c.args.i (c.args.p - c.args.base) (block_at c.args.word)))) c.put_part-next.ensures.stores;
+}

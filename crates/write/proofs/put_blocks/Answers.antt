@@ -1,12 +1,8 @@
 -- `write::put_blocks` meets its contract. The invariant: the entries and the parts of the blocks that begin before rank `i` are stored.
 -- Assumes nothing.
-use mathlib.Core.List.{List}
-use Prim.Native.Nat.{◌-◌}
 use native.Mathlib.Omega.{arith}
-use lib.ListN.{length}
-use Rattle.cut.specs.Cut.{Block}
 use Rattle.plan.specs.Planned.{cut_of}
-use Rattle.write.proofs.Laying.{Laying, laying_start, Laying_next, laying_turn, laying_end}
+use Rattle.write.proofs.Laying.{laying_start, Laying_next, laying_turn, laying_end}
 use Rattle.write.proofs.put_blocks.Goals as goal
 
 pub overflow_mul-base : goal.overflow_mul-base

@@ -2,11 +2,9 @@
 -- Assumes nothing.
 use mathlib.Core.List.{List}
 use Prim.Native.Nat.{◌-◌}
-use native.Mathlib.Omega.{arith}
 use lib.ListN.{length}
 use Rattle.cut.specs.Cut.{Block}
-use Rattle.plan.specs.Planned.{cut_of}
-use Rattle.write.proofs.Laying.{Laying, laying_start, Laying_next, laying_turn, laying_end}
+use Rattle.write.proofs.Laying.{Laying}
 use Rattle.write.proofs.put_blocks.Given as goal
 
 abbrev pub invariant-loop-i : goal.invariant-loop-i

@@ -9,9 +9,9 @@ use Rattle.write.proofs.put_part.Goals as goal
 
 pub put-requires : goal.put-requires
 put-requires c = let q = part_within c.args.list.now c.args.i c.args.word codes (ap kind_of c.if-word-eq-CODES.true) c.past_at-from.ensures in (
-      Rising_within c.args.list.now c.args.i c.args.word c.requires.0 c.past_at-from.ensures,
-      (beyond_within c.args.list.now c.args.i c.args.word c.requires.0 c.past_at-from.ensures, omega (arith, c.requires.1, ap length q)),
-    )
+  Rising_within c.args.list.now c.args.i c.args.word c.requires.0 c.past_at-from.ensures,
+  (beyond_within c.args.list.now c.args.i c.args.word c.requires.0 c.past_at-from.ensures, omega (arith, c.requires.1, ap length q)),
+)
 
 pub returns-then-word-eq-CODES : goal.returns-then-word-eq-CODES
 returns-then-word-eq-CODES c = part_stored c.args.list.now c.args.i c.args.word codes (ap kind_of c.if-word-eq-CODES.true) c.past_at-from.ensures c.args.out.now

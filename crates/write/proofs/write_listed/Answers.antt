@@ -1,7 +1,6 @@
 -- `write::write_listed` meets its contract: the bytes of the plan decide whether the image is put, and the work area is cleared either way.
 -- Assumes nothing.
 use mathlib.Core.Path.{ap, ◌∙◌}
-use mathlib.Core.Logic.{⊎_elim}
 use native.Mathlib.Omega.{arith}
 use lib.ListN.{length}
 use lib.Seq.{length-sets}
@@ -28,12 +27,12 @@ refuse-answer-requires c = omega (arith, planned_fits c.plan-totals.ensures c.re
 
 pub shape_of-out : goal.shape_of-out
 shape_of-out c = elim c.if-bytes-out.branch [
-    | then-bytes-out w ↦ ap length (w.out-is ∙ w.put_image.ensures) ∙ length-sets _ 0 (image_for _)
-    | else-bytes-out w ↦ ap length w.out-is
-  ]
+  | then-bytes-out w ↦ ap length (w.out-is ∙ w.put_image.ensures) ∙ length-sets _ 0 (image_for _)
+  | else-bytes-out w ↦ ap length w.out-is
+]
 
 pub returns : goal.returns
 returns c = elim c.if-bytes-out.branch [
-    | then-bytes-out w ↦ Promise_placed c.plan-totals.ensures c.requires.0 c.requires.1 c.work_for.ensures c.clear.ensures c.args.out.now w.if-bytes-out.true w.answer-is (w.out-is ∙ w.put_image.ensures)
-    | else-bytes-out w ↦ Promise_unplaced c.plan-totals.ensures c.requires.0 c.requires.1 c.work_for.ensures c.clear.ensures c.args.out.now (omega (arith, w.if-bytes-out.false)) (w.answer-is ∙ w.refuse-answer.ensures) w.out-is
-  ]
+  | then-bytes-out w ↦ Promise_placed c.plan-totals.ensures c.requires.0 c.requires.1 c.work_for.ensures c.clear.ensures c.args.out.now w.if-bytes-out.true w.answer-is (w.out-is ∙ w.put_image.ensures)
+  | else-bytes-out w ↦ Promise_unplaced c.plan-totals.ensures c.requires.0 c.requires.1 c.work_for.ensures c.clear.ensures c.args.out.now (omega (arith, w.if-bytes-out.false)) (w.answer-is ∙ w.refuse-answer.ensures) w.out-is
+]

@@ -1,11 +1,8 @@
 -- `write_list::first_above` meets its contract. The invariant: no step before rank `i` is above the largest. Assumes nothing.
-use mathlib.Core.Path.{sym}
 use Prim.Native.Nat.{◌-◌, ◌≤◌}
-use native.Mathlib.Omega.{arith}
 use lib.ListN.{length}
 use Rattle.write_list.specs.Faults.{above}
 use Rattle.write_list.specs.Inside.Passed.{Passed}
-use Rattle.write_list.proofs.Faults.{first_end, small_more, small_halt}
 use Rattle.write_list.proofs.first_above.Given as goal
 
 abbrev pub invariant-loop-i : goal.invariant-loop-i

@@ -1,12 +1,9 @@
 -- `write_list::first_fall` meets its contract: where not all steps rise, a search finds the first that does not. The invariant: no step before
 -- rank `i` falls. Assumes nothing.
-use mathlib.Core.Path.{refl, sym}
 use Prim.Native.Nat.{◌-◌, ◌≤◌}
-use native.Mathlib.Omega.{arith}
 use lib.ListN.{length}
 use Rattle.write_list.specs.Faults.{falls}
 use Rattle.write_list.specs.Inside.Passed.{Passed}
-use Rattle.write_list.proofs.Faults.{first_end, rise_none, rise_more, rise_halt}
 use Rattle.write_list.proofs.first_fall.Given as goal
 
 abbrev pub invariant-loop-i : goal.invariant-loop-i

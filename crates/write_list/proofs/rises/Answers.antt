@@ -1,12 +1,7 @@
 -- `write_list::rises` meets its contract. The invariant: where `all` still says so, no step before rank `i` falls. Assumes nothing.
 use mathlib.Core.Path.{◌≡◌, sym, ◌∙◌}
-use mathlib.Core.Logic.{⊎_elim}
-use mathlib.Core.Bool.{true}
-use Prim.Native.Nat.{ℕ, ◌-◌, ◌≤◌}
+use Prim.Native.Nat.{ℕ}
 use native.Mathlib.Omega.{arith}
-use lib.ListN.{length}
-use Rattle.write_list.specs.Faults.{falls}
-use Rattle.write_list.specs.Inside.Passed.{Passed}
 use Rattle.write_list.proofs.Faults.{rise_none, rise_more}
 use Rattle.write_list.proofs.rises.Goals as goal
 use Rattle.write_list.proofs.rises.Goals.{then-list-i, else-list-i}
@@ -37,12 +32,12 @@ loop-i-smaller c = omega arith
 
 pub loop-i-preserved : goal.loop-i-preserved
 loop-i-preserved c = (
-      omega arith,
-      elim c.if-list-i.branch [
-        | then-list-i w ↦ λ e. let z : ◌≡◌ {A = ℕ} 0 1 = cc in absurd (omega arith)
-        | else-list-i w ↦ λ e. rise_more c.args.list.now c.loop-i.invariant.0 (c.loop-i.invariant.1 (sym w.all-is ∙ e)) (omega (arith, w.if-list-i.false))
-      ],
-    )
+  omega arith,
+  elim c.if-list-i.branch [
+    | then-list-i w ↦ λ e. let z : ◌≡◌ {A = ℕ} 0 1 = cc in absurd (omega arith)
+    | else-list-i w ↦ λ e. rise_more c.args.list.now c.loop-i.invariant.0 (c.loop-i.invariant.1 (sym w.all-is ∙ e)) (omega (arith, w.if-list-i.false))
+  ],
+)
 
 pub returns : goal.returns
 returns c = λ e k h. c.loop-i.invariant.1 e k (omega arith)

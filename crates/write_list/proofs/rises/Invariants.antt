@@ -1,13 +1,10 @@
 -- `write_list::rises` meets its contract. The invariant: where `all` still says so, no step before rank `i` falls. Assumes nothing.
-use mathlib.Core.Path.{◌≡◌, sym, ◌∙◌}
-use mathlib.Core.Logic.{⊎_elim}
+use mathlib.Core.Path.{◌≡◌}
 use mathlib.Core.Bool.{true}
-use Prim.Native.Nat.{ℕ, ◌-◌, ◌≤◌}
-use native.Mathlib.Omega.{arith}
+use Prim.Native.Nat.{◌-◌, ◌≤◌}
 use lib.ListN.{length}
 use Rattle.write_list.specs.Faults.{falls}
 use Rattle.write_list.specs.Inside.Passed.{Passed}
-use Rattle.write_list.proofs.Faults.{rise_none, rise_more}
 use Rattle.write_list.proofs.rises.Given as goal
 
 abbrev pub invariant-loop-i : goal.invariant-loop-i
