@@ -114,7 +114,8 @@ pub fn run<R: Read + Drop, W: Write>(alloc: Global, from: R, out: &mut W) -> io:
     ensures { OnOk result ((image : List ℕ) × Appends (W.contents out.old) (W.contents out.new) (report image)
         × IfSome (R.remaining from) (λ xs. image ≡ take (longest + 1) xs)) }
 {
-    let mut image = Vec::with_capacity(alloc, LONGEST + 1)?;
+    // Of the two places more, one takes the byte past the longest, and one stays free, so that reading to the end never asks for more memory.
+    let mut image = Vec::with_capacity(alloc, LONGEST + 2)?;
     from.take(LONGEST as u64 + 1).read_to_end(&mut image)?;
     if image.len() > LONGEST {
         return out.write_all(b"too long\n");
