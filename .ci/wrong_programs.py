@@ -208,7 +208,7 @@ def tried(programs, root=ROOT):
         texts = edited(programs, root)
     except ValueError as error:
         return f"not tried: {error}\n"
-    with tempfile.TemporaryDirectory() as room:
+    with tempfile.TemporaryDirectory(prefix="wrong-program-") as room:
         lay_out(pathlib.Path(room), crate, texts, root)
         how = {"stdin": subprocess.DEVNULL, "stdout": subprocess.PIPE, "stderr": subprocess.STDOUT, "text": True, "errors": "replace"}
         return subprocess.run(["rt", "check", "--jobs", "1"], cwd=f"{room}/crates/{crate}", **how).stdout.replace(room, "..")
