@@ -9,10 +9,17 @@ A file crates/CRATE/must-fail/LABEL.edit holds one wrong program or several, whi
     new:     let bits = w.bits & (w.bits - 0);
 
 A line that begins with # is a program's name, one that begins with -- says more of it. `want:` says where it has to be refused: at a function (`next_bit`, `Walk::next`), or at
-a law of proofs/ or specs/ with its module (`law Best.best-step`). `file:` holds for the pairs of `old:` and `new:` after it, as `rt must-fail` reads them.
+a law of proofs/ or specs/ with its module (`law Best.best_step`). `file:` holds for the pairs of `old:` and `new:` after it, as `rt must-fail` reads them.
+
+rt says of a file only that it was refused, and by what first. So each file is tried once more, by `rt check` on a copy, and what that said is
+kept in target/must-fail/CRATE/LABEL.log, and in LABEL.N.log for its N-th program where that was tried alone.
 """
+import os
 import pathlib
 import re
+import shutil
+import subprocess
+import tempfile
 from dataclasses import dataclass, field
 
 ROOT = pathlib.Path(__file__).resolve().parent.parent
@@ -135,55 +142,169 @@ def touched_by(program, root=ROOT):
     return bodies, others
 
 
+# ---- trying them
+
+
+def edited(programs, root=ROOT):
+    """The texts of the files that some programs of one crate change, by their paths in the crate, the changes being made one after the other."""
+    texts = {}
+    for program in programs:
+        for change in program.changes:
+            path = root / "crates" / program.crate / change.file
+            text = texts.get(change.file, path.read_text(encoding="utf-8") if path.exists() else "")
+            if text.count(change.old) != 1:
+                raise ValueError(f"its line is in {change.file} {text.count(change.old)} times: {change.old.strip()}")
+            texts[change.file] = text.replace(change.old, change.new)
+    return texts
+
+
+def listed(root=ROOT):
+    """The lines of crates.txt that name a crate, each with the crates that it uses."""
+    lines = re.findall(r"^((\w+)[^:#\n]*:(.*))$", (root / "crates.txt").read_text(encoding="utf-8"), re.M)
+    return {name: (line, uses.split()) for line, name, uses in lines}
+
+
+def with_those_below(crate, crates):
+    found = [crate]
+    for name in found:
+        found += [it for it in crates[name][1] if it in crates and it not in found]
+    return found
+
+
+def link(source, to):
+    try:
+        os.link(source, to)
+    except OSError:
+        shutil.copy2(source, to)
+
+
+def link_proved(source, to):
+    # A check replaces a file of this kind and changes none.
+    (link if source.endswith(".oantt") else shutil.copy2)(source, to)
+
+
+def lay_out(room, crate, texts, root):
+    """A repository of the crate with these texts, over what its check kept, and of the libraries below it as they are built."""
+    crates = listed(root)
+    names = with_those_below(crate, crates)
+    (room / "crates.txt").write_text("".join(crates[name][0] + "\n" for name in names), encoding="utf-8")
+    for name in names:
+        parts = {part: shutil.copy2 if name == crate else link for part in ("src", "specs", "proofs")}
+        parts |= {"out/incremental": link_proved} if name == crate else {"out/rlib": link}
+        for part, copy in parts.items():
+            source = root / "crates" / name / part
+            if source.is_dir():
+                shutil.copytree(source, room / "crates" / name / part, copy_function=copy)
+    for file, text in texts.items():
+        path = room / "crates" / crate / file
+        path.parent.mkdir(parents=True, exist_ok=True)
+        path.write_text(text, encoding="utf-8")
+
+
+def tried(programs, root=ROOT):
+    """What the check of a crate with these programs says."""
+    crate = programs[0].crate
+    try:
+        texts = edited(programs, root)
+    except ValueError as error:
+        return f"not tried: {error}\n"
+    with tempfile.TemporaryDirectory(prefix="wrong-program-") as room:
+        lay_out(pathlib.Path(room), crate, texts, root)
+        how = {"stdin": subprocess.DEVNULL, "stdout": subprocess.PIPE, "stderr": subprocess.STDOUT, "text": True, "errors": "replace"}
+        return subprocess.run(["rt", "check", "--jobs", "1"], cwd=f"{room}/crates/{crate}", **how).stdout.replace(room, "..")
+
+
+def logs_of(edit, root=ROOT):
+    """Where it is kept what the checks of a file of wrong programs said: of all together, and then of each alone."""
+    folder = root / "target" / "must-fail" / edit.parent.parent.name
+    return [folder / f"{edit.stem}.log", *(folder / f"{edit.stem}.{number}.log" for number, _ in enumerate(programs_of(edit)[0], 1))]
+
+
+def keep_tried(edit, root=ROOT):
+    """Tries the programs of a file, all together and then each alone that may be hidden there by the others, and keeps what was said."""
+    programs, logs = programs_of(edit)[0], logs_of(edit, root)
+    for log in logs:
+        log.parent.mkdir(parents=True, exist_ok=True)
+        log.unlink(missing_ok=True)
+    logs[0].write_text(tried(programs, root), encoding="utf-8")
+    together = Log(logs[0], programs, root)
+    for program, log in zip(programs, logs[1:]):
+        if len(programs) > 1 and together.may_hide(program):
+            log.write_text(tried([program], root), encoding="utf-8")
+
+
+def verdicts(edit, root=ROOT):
+    """Each program of a file, with the fact by which it was refused at its own place, or why it shows nothing."""
+    programs, logs = programs_of(edit)[0], logs_of(edit, root)
+    for program, log in zip(programs, logs[1:]):
+        if log.exists():
+            yield program, *Log(log, [program], root).verdict(program)
+        elif logs[0].exists():
+            yield program, *Log(logs[0], programs, root).verdict(program)
+        else:
+            yield program, None, "it was not tried"
+
+
 # ---- what a log says
 
-ERROR = re.compile(r"^(\S+?):(\d+):\d+: error: (?:`([^`]*)`)?:? ?(.*)")
-UNPROVED = re.compile(r"^note: (\S+?):(\d+):\d+: (it is not proved that .*?)(?: \(`([^`]*)`\))?$")
+ERROR = re.compile(r"^(?:\./)?(\S+?):(\d+):\d+: error: (?:`([^`]*)`: )?(.*)")
+UNPROVED = re.compile(r"^note: (?:\./)?(\S+?):(\d+):\d+: (it is not proved that .*?) \(`([^`]*)`\)")
 STATUS = re.compile(r"^fn (\w+)::([\w:]+): (.*)")
+UNSEARCHED = re.compile(r"`search` did not prove `([^`]*)`")
 
-# What a check says where a law rests on one that was refused. That shows nothing of the law itself.
-CONSEQUENCE = "was not admitted"
-# What it says where the edit made the proof file unfit for the code: that a need, a law or a place has another name now shows nothing.
-NAME_ONLY = ("that can be named from here", "is not in scope", "has no field")
+# What a check says where something rests on what was refused. That shows nothing of the thing itself.
+CONSEQUENCE = re.compile(r"which was (rejected|not admitted)|was not admitted")
+# What it says where the edit made a file unfit for the code, so that it cannot be read: that a goal, a law or a place has another name now shows nothing.
+NAME_ONLY = re.compile(r"that can be named from here|is not in scope|has no field|is no name|operand is missing|expected the end|cannot continue")
+# A limit of the checker, which then gives no verdict.
+LIMIT = re.compile(r"ran out of (stack|the (steps|memory))|outgrew the memory limit|stopped at the step limit")
 
 
 @dataclass
 class Refusal:
-    place: str  # a file of the crate, and the law or need in it
+    place: str  # a file of the crate, and the law or goal in it
     law: str
     says: str
-    kind: str  # "fact", "name" or "consequence"
+    kind: str  # "fact", "name", "limit" or "consequence"
     function: str  # the function to whose proof it belongs, or ""
 
 
-class Log:
-    """What the check of one file of wrong programs said."""
+def kind_of(says):
+    kinds = (("consequence", CONSEQUENCE), ("name", NAME_ONLY), ("limit", LIMIT))
+    return next((kind for kind, words in kinds if words.search(says)), "fact")
 
-    def __init__(self, folder):
-        self.status = {}
-        self.refusals = []
+
+class Log:
+    """What a check of some wrong programs of one crate said."""
+
+    def __init__(self, path, programs, root=ROOT):
+        said = path.read_text(encoding="utf-8", errors="replace")
+        self.status, self.refusals = {}, []
+        self.stopped = None if re.search(r"^logic=", said, re.M) else self.why_stopped(said)
+        crate, texts = root / "crates" / programs[0].crate, {} if self.stopped else edited(programs, root)
         owners, sources = {}, {}
-        for path in folder.glob("src/*.rt"):
-            sources[f"src/{path.name}"] = path.read_text(encoding="utf-8")
-            for function in functions_of(sources[f"src/{path.name}"]):
-                owners["proofs/" + function.name.replace("::", "/") + "/"] = function.name
-        for line in (folder / ".log").read_text(encoding="utf-8", errors="replace").splitlines():
+        for file in sorted(crate.glob("src/*.rt")):
+            name = f"src/{file.name}"
+            sources[name] = texts.get(name) or file.read_text(encoding="utf-8")
+            for function in functions_of(sources[name]):
+                front, _, last = function.name.replace("::", "/").rpartition("/")
+                owners |= {os.path.join("proofs", front, mark + last, ""): function.name for mark in ("", "+")}
+        for line in said.splitlines():
             if found := STATUS.match(line):
                 self.status[found[2]] = found[3]
-                continue
-            found = ERROR.match(line)
-            law, says = (found[3] or "", found[4]) if found else ("", "")
-            if not found and (found := UNPROVED.match(line)):
-                law, says = found[4] or "", found[3]
-            if not found:
-                continue
-            place = found[1].split(f"/must-fail/{folder.parent.name}/{folder.name}/")[-1]
-            owner = next((name for front, name in owners.items() if place.startswith(front)), "")
-            if place in sources:
-                function = function_at(sources[place], int(found[2]))
-                owner = function.name if function else ""
-            kind = "consequence" if CONSEQUENCE in says else "name" if any(w in says for w in NAME_ONLY) else "fact"
-            self.refusals.append(Refusal(place, law, says, kind, owner))
+                if goal := UNSEARCHED.search(found[3]):
+                    self.refusals.append(Refusal("the code", goal[1], found[3], "fact", found[2]))
+            elif found := ERROR.match(line) or UNPROVED.match(line):
+                place, number, law, says = found.groups() if found.re is ERROR else (found[1], found[2], found[4], found[3])
+                owner = next((name for front, name in owners.items() if place.startswith(front)), "")
+                if place in sources:
+                    function = function_at(sources[place], int(number))
+                    owner = function.name if function else ""
+                self.refusals.append(Refusal(place, law or "", says, kind_of(line), owner))
+
+    def why_stopped(self, said):
+        lines = [line for line in said.splitlines() if re.search(r"not tried: |error(\[|:)|^rattle: ", line)] or said.splitlines()[-1:]
+        return f"the check came to no verdict: {lines[0] if lines else 'it said nothing'}"
 
     def own(self, program):
         """The refusals at the place that the program names."""
@@ -192,15 +313,23 @@ class Log:
             return [r for r in self.refusals if r.law == name and r.place in files]
         return [r for r in self.refusals if r.function == program.want]
 
+    def may_hide(self, program):
+        """Whether a program shows nothing for the sake of others beside it: where a callee is not proved, a caller's goals without an answer are not tried."""
+        calls = "it calls" in self.status.get(program.want, "") and not any(r.kind in ("fact", "name") for r in self.own(program))
+        return self.stopped is not None or calls
+
     def verdict(self, program):
         """The fact by which a program was refused at its own place, and None; or None, and why it shows nothing."""
+        if self.stopped:
+            return None, self.stopped
         own = self.own(program)
         fact = next((r for r in own if r.kind == "fact"), None)
         if program.law is None and self.status.get(program.want, "proved") == "proved":
             return None, f"`{program.want}` is proved"
-        if any(r.kind == "name" for r in own):
-            return None, f"at `{program.want}` it is refused for a name only"
+        if named := next((r for r in own if r.kind == "name"), None):
+            return None, f"at `{program.want}` it is refused for a name only: {named.says[:200]}"
         if fact is None:
             elsewhere = sorted({r.function or f"law {r.law}" for r in self.refusals if r.kind == "fact"})
-            return None, f"at `{program.want}` no fact refuses it; refused by a fact: {', '.join(elsewhere) or 'nothing'}"
+            own_words = f" ({self.status[program.want]})" if program.law is None else "".join(f" ({r.says[:120]})" for r in own[:1])
+            return None, f"at `{program.want}` no fact refuses it{own_words}; refused by a fact: {', '.join(elsewhere) or 'nothing'}"
         return fact, None
