@@ -166,6 +166,7 @@ fn answers(q: Question, e: Entry) -> bool
 }
 
 // The first block that has the answer to a question.
+#[tactic(auto, using(crate::proofs::Seeking::seeking_here, crate::proofs::Seeking::seeking_past))]
 pub fn find(image: &[u8], q: Question) -> Spot
     requires { entry_place (number_at image.now 0) ≤ length image.now }
     ensures { result ≡ spot_in q image.now }
