@@ -211,7 +211,13 @@ def tried(programs, root=ROOT):
     with tempfile.TemporaryDirectory(prefix="wrong-program-") as room:
         lay_out(pathlib.Path(room), crate, texts, root)
         how = {"stdin": subprocess.DEVNULL, "stdout": subprocess.PIPE, "stderr": subprocess.STDOUT, "text": True, "errors": "replace"}
-        return subprocess.run(["rt", "check", "--jobs", "1"], cwd=f"{room}/crates/{crate}", **how).stdout.replace(room, "..")
+        for _ in range(2):
+            run = subprocess.run(["rt", "check", "--jobs", "1"], cwd=f"{room}/crates/{crate}", **how)
+            # With any other status the check judged nothing: it was killed for memory, say.
+            if run.returncode in (0, 1):
+                break
+            run.stdout += f"not tried: the check ended with status {run.returncode}\n"
+        return run.stdout.replace(room, "..")
 
 
 def logs_of(edit, root=ROOT):
@@ -255,7 +261,7 @@ UNSEARCHED = re.compile(r"`search` did not prove `([^`]*)`")
 # What a check says where something rests on what was refused. That shows nothing of the thing itself.
 CONSEQUENCE = re.compile(r"which was (rejected|not admitted)|was not admitted")
 # What it says where the edit made a file unfit for the code, so that it cannot be read: that a goal, a law or a place has another name now shows nothing.
-NAME_ONLY = re.compile(r"that can be named from here|is not in scope|has no field|is no name|operand is missing|expected the end|cannot continue")
+NAME_ONLY = re.compile(r"that can be named from here|is not in scope|has no field|\(nearest: \.|is no name|is not a library that|operand is missing|expected the end|cannot continue")
 # A limit of the checker, which then gives no verdict.
 LIMIT = re.compile(r"ran out of (stack|the (steps|memory))|outgrew the memory limit|stopped at the step limit")
 
