@@ -6,5 +6,5 @@ use std::io;
 
 // Lists the image on standard input.
 fn main(rt: HostRuntime) -> io::Result<()> {
-    blocks_print::run(rt.alloc(), rt.stdin(), &mut io::writer(&rt))
+    blocks_print::run(&mut rt.stdin(), &mut io::writer(&rt))
 }

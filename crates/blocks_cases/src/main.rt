@@ -7,9 +7,9 @@ use std::rt::Files;
 use std::{env, io};
 
 // Lists the image of the file that an argument names, or says why the file cannot be opened.
-fn list_file<R: Files + Print + Eprint + AllocGlobal>(rt: &R, path: &str) -> io::Result<()> {
+fn list_file<R: Files + Print + Eprint>(rt: &R, path: &str) -> io::Result<()> {
     match File::open(rt, path) {
-        Ok(file) => blocks_print::run(rt.alloc(), file, &mut io::writer(rt)),
+        Ok(mut file) => blocks_print::run(&mut file, &mut io::writer(rt)),
         Err(e) => eprintln!(rt; "{path}: {e}"),
     }
 }

@@ -1,5 +1,6 @@
--- `Listed` says what list stands for an image whose first line is known, `Lines` how the lines follow one another, and `Report` what is read
--- and reported of an input.
+-- `Listed` says what list stands for an image whose first line is known, `Lines` how the lines follow one another, `Filling` how a buffer is
+-- filled, and `Report` what is read and reported of an input.
 mod Lines
 mod Listed
+mod Filling
 mod Report

@@ -1,8 +1,9 @@
-// The block lister: prints what `blocks_lines` says of an image, in the words of document 01.
+// The block lister: prints what `blocks_lines` says of an image, in the words of document 01. The only errors are those of the reader and the
+// writer that it is given: it then stops, and what it has written stays written.
 
 #![tactic(auto)]
 
-ghost use Rattle.std.specs.Prelude.{◌≡◌, ◌+◌, List, ℕ, OnOk, IfSome, take};
+ghost use Rattle.std.specs.Prelude.{◌≡◌, ◌+◌, List, ℕ, OnOk, IfOk, IfSome, length, take, ◌≤◌};
 ghost use Rattle.std.specs.Io.KnownBytes.{Appends};
 ghost use Rattle.rules.specs.Numbers.{number_at};
 ghost use Rattle.image.specs.Verdict.{verdict};
@@ -11,7 +12,6 @@ ghost use Rattle.blocks_print.specs.Text.{longest, another, word_of, line_text, 
 
 use blocks_lines::{Contents, Line};
 use rules::Refusal;
-use std::alloc::Global;
 use std::io;
 use std::io::{Read, Write};
 
@@ -109,16 +109,31 @@ pub fn list<W: Write>(out: &mut W, image: &[u8]) -> io::Result<()>
     }
 }
 
-// Lists the image that a reader gives. Of one that is too long it says so, and reads one byte past the longest.
-pub fn run<R: Read + Drop, W: Write>(alloc: Global, from: R, out: &mut W) -> io::Result<()>
-    ensures { OnOk result ((image : List ℕ) × Appends (W.contents out.old) (W.contents out.new) (report image)
-        × IfSome (R.remaining from) (λ xs. image ≡ take (longest + 1) xs)) }
+// Fills a buffer from its front with what a reader gives, until it is full or nothing is left, and says how many bytes those are.
+fn fill<R: Read>(from: &mut R, buffer: &mut [u8]) -> io::Result<usize>
+    ensures within { IfOk result (λ n. n ≤ length buffer.new) }
+    ensures front { IfOk result (λ n. IfSome (R.remaining from.old) (λ xs. take n buffer.new ≡ take (length buffer.new) xs)) }
 {
-    // Of the two places more, one takes the byte past the longest, and one stays free, so that reading to the end never asks for more memory.
-    let mut image = Vec::with_capacity(alloc, LONGEST + 2)?;
-    from.take(LONGEST as u64 + 1).read_to_end(&mut image)?;
-    if image.len() > LONGEST {
+    let mut at: usize = 0;
+    while at < buffer.len() {
+        let n = from.read(&mut buffer[at..])?;
+        if n == 0 {
+            return Ok(at);
+        }
+        at += n;
+    }
+    Ok(at)
+}
+
+// Lists the image that a reader gives. Of one that is too long it says so, and reads one byte past the longest.
+pub fn run<R: Read, W: Write>(from: &mut R, out: &mut W) -> io::Result<()>
+    ensures { OnOk result ((image : List ℕ) × Appends (W.contents out.old) (W.contents out.new) (report image)
+        × IfSome (R.remaining from.old) (λ xs. image ≡ take (longest + 1) xs)) }
+{
+    let mut image = [0u8; LONGEST + 1];
+    let n = fill(from, &mut image)?;
+    if n > LONGEST {
         return out.write_all(b"too long\n");
     }
-    list(out, &image)
+    list(out, &image[..n])
 }
