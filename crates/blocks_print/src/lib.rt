@@ -1,5 +1,5 @@
 // The block lister: prints what `blocks_lines` says of an image, in the words of document 01. The only errors are those of the reader and the
-// writer that it is given: it then stops, and what it has written stays written.
+// writer that it is given. It then stops, and of what was printed until then nothing is promised, as the writer promises nothing.
 
 #![tactic(auto)]
 
