@@ -98,12 +98,19 @@ def edits_of(root):
     return sorted(root.glob("crates/*/must-fail/*.edit"))
 
 
+def owner_of(trait, type):
+    """What the check calls an impl: by its type, and for a trait by type and trait, as ClockFromTime for `impl From<Time> for Clock`; of a path to
+    a type it takes all words, of one to a trait the last."""
+    words = [re.match(r"[\w:]+", type)[0]] + re.findall(r"[\w:]+", re.sub(r"^(\w+::)+", "", trait or ""))
+    return "".join(part[0].upper() + part[1:] for word in words for part in word.split("::"))
+
+
 def functions_of(text):
     """The functions of a source file that is laid out as `rt fmt` lays it out."""
     lines, found, owner, at = text.split("\n"), [], None, 0
     while at < len(lines):
-        if impl := re.match(r"impl (\w+)", lines[at]):
-            owner = impl[1]
+        if impl := re.match(r"impl(?:<[^>]*>)? (?:(.+) for )?(.+) \{", lines[at]):
+            owner = owner_of(*impl.groups())
         elif lines[at] == "}":
             owner = None
         if head := re.match(r'( *)(?:pub )?(?:extern "C" )?fn (\w+)', lines[at]):

@@ -14,9 +14,8 @@ ghost use Rattle.ask.specs.Cursor as cursor;
 ghost use Rattle.answers.specs.Fields.{refusal_of, counted_of, ranked_of, first_of, moved_of, clocked_of};
 ghost use Rattle.answers.specs.Inside.Steps.{unfound, unmoved};
 
-use ask::{Next, Placed};
-use clock::Clocked;
-use read::Checked;
+use ask::Next;
+use clock::Time;
 
 // Free: the interface has it so. Whether an answer gives a step.
 const FOUND: u32 = 1;
@@ -98,57 +97,62 @@ fn none() -> Refusal
 }
 
 // A refusal in its fields.
-fn of_refusal(r: rules::Refusal) -> Refusal
-    ensures { result ≡ refusal_of (refusing 0 r) }
-{
-    Refusal {
-        number: r.number,
-        side: r.side,
-        place: r.place,
+impl From<rules::Refusal> for Refusal {
+    ghost from_gives = { λ r a. a ≡ refusal_of (refusing 0 r) };
+
+    fn from(r: rules::Refusal) -> Refusal {
+        Refusal {
+            number: r.number,
+            side: r.side,
+            place: r.place,
+        }
     }
 }
 
 // The answer of writing, or of a pair, in its fields.
-pub fn of_counted(c: write::Counted) -> Counted
-    ensures { result ≡ counted_of (write.paper_of c) }
-{
-    match c {
-        write::Counted::Accepted { steps, bytes } => Counted {
-            refusal: none(),
-            steps,
-            bytes,
-        },
-        write::Counted::Refused(r) => Counted {
-            refusal: of_refusal(r),
-            steps: 0,
-            bytes: 0,
-        },
+impl From<Result<write::Counted, rules::Refusal>> for Counted {
+    ghost from_gives = { λ c a. a ≡ counted_of (write.paper_of c) };
+
+    fn from(c: Result<write::Counted, rules::Refusal>) -> Counted {
+        match c {
+            Ok(w) => Counted {
+                refusal: none(),
+                steps: w.steps,
+                bytes: w.bytes,
+            },
+            Err(r) => Counted {
+                refusal: Refusal::from(r),
+                steps: 0,
+                bytes: 0,
+            },
+        }
     }
 }
 
 // The answer of a check or a reading back in its fields: as that of writing, with no bytes.
-pub fn of_checked(c: Checked) -> Counted
-    ensures { result ≡ counted_of (read.paper_of c) }
-{
-    match c {
-        Checked::Accepted { steps } => of_counted(write::Counted::Accepted { steps, bytes: 0 }),
-        Checked::Refused(r) => of_counted(write::Counted::Refused(r)),
+impl From<Result<u32, rules::Refusal>> for Counted {
+    ghost from_gives = { λ c a. a ≡ counted_of (read.paper_of c) };
+
+    fn from(c: Result<u32, rules::Refusal>) -> Counted {
+        c.map(|steps| write::Counted { steps, bytes: 0 }).into()
     }
 }
 
 // The answer to a rank in its fields.
-pub fn of_ranked(a: ask::Ranked) -> Ranked
-    ensures { result ≡ ranked_of (rank.paper_of a) }
-{
-    match a {
-        ask::Ranked::Step(step) => Ranked {
-            refusal: none(),
-            step,
-        },
-        ask::Ranked::Refused(r) => Ranked {
-            refusal: of_refusal(r),
-            step: 0,
-        },
+impl From<Result<u32, rules::Refusal>> for Ranked {
+    ghost from_gives = { λ c a. a ≡ ranked_of (rank.paper_of c) };
+
+    fn from(c: Result<u32, rules::Refusal>) -> Ranked {
+        match c {
+            Ok(step) => Ranked {
+                refusal: none(),
+                step,
+            },
+            Err(r) => Ranked {
+                refusal: Refusal::from(r),
+                step: 0,
+            },
+        }
     }
 }
 
@@ -165,26 +169,30 @@ fn finds_nothing(refusal: Refusal) -> First
 }
 
 // The answer to a bound in its fields.
-pub fn of_first(a: ask::First) -> First
-    ensures { result ≡ first_of (first.paper_of a) }
-{
-    match a {
-        ask::First::Found(h) => First {
-            refusal: none(),
-            found: FOUND,
-            step: h.step,
-            rank: h.rank,
-        },
-        ask::First::Nothing => finds_nothing(none()),
-        ask::First::Refused(r) => finds_nothing(of_refusal(r)),
+impl From<ask::First> for First {
+    ghost from_gives = { λ c a. a ≡ first_of (first.paper_of c) };
+
+    fn from(c: ask::First) -> First {
+        match c {
+            ask::First::Found(h) => First {
+                refusal: none(),
+                found: FOUND,
+                step: h.step,
+                rank: h.rank,
+            },
+            ask::First::Nothing => finds_nothing(none()),
+            ask::First::Refused(r) => finds_nothing(Refusal::from(r)),
+        }
     }
 }
 
 // The cursor of a rank, as `ask` knows it.
-pub fn at_rank(cursor: Cursor) -> ask::Cursor
-    ensures { result.rank ≡ cursor.rank }
-{
-    ask::Cursor { rank: cursor.rank }
+impl From<Cursor> for ask::Cursor {
+    ghost from_gives = { λ c a. a.rank ≡ c.rank };
+
+    fn from(c: Cursor) -> ask::Cursor {
+        ask::Cursor { rank: c.rank }
+    }
 }
 
 // An answer that gives no step, and the cursor at a rank.
@@ -200,49 +208,52 @@ fn stands(refusal: Refusal, rank: u32) -> Moved
 }
 
 // The answer of `next` in its fields.
-pub fn of_next(a: Next) -> Moved
-    ensures { result ≡ moved_of (cursor.next_paper a) }
-{
-    match a {
-        Next::Step(m) => Moved {
-            refusal: none(),
-            found: FOUND,
-            step: m.step,
-            cursor: Cursor {
-                rank: m.cursor.rank,
+impl From<Result<Next, rules::Refusal>> for Moved {
+    ghost from_gives = { λ c a. a ≡ moved_of (cursor.next_paper c) };
+
+    fn from(c: Result<Next, rules::Refusal>) -> Moved {
+        match c {
+            Ok(Next::Step(m)) => Moved {
+                refusal: none(),
+                found: FOUND,
+                step: m.step,
+                cursor: Cursor {
+                    rank: m.cursor.rank,
+                },
             },
-        },
-        Next::End(c) => stands(none(), c.rank),
-        Next::Refused(r) => stands(of_refusal(r), 0),
+            Ok(Next::End(at)) => stands(none(), at.rank),
+            Err(r) => stands(Refusal::from(r), 0),
+        }
     }
 }
 
 // The answer of `start` or `skip_to` in its fields: as that of `next` where it gives no step.
-pub fn of_placed(a: Placed) -> Moved
-    ensures { result ≡ moved_of (cursor.placed_paper a) }
-{
-    match a {
-        Placed::At(c) => of_next(Next::End(c)),
-        Placed::Refused(r) => of_next(Next::Refused(r)),
+impl From<Result<ask::Cursor, rules::Refusal>> for Moved {
+    ghost from_gives = { λ c a. a ≡ moved_of (cursor.placed_paper c) };
+
+    fn from(c: Result<ask::Cursor, rules::Refusal>) -> Moved {
+        c.map(Next::End).into()
     }
 }
 
 // The answer of the clock in its fields.
-pub fn of_clocked(a: Clocked) -> Clock
-    ensures { result ≡ clocked_of (clock.paper_of a) }
-{
-    match a {
-        Clocked::At(t) => Clock {
-            refusal: none(),
-            day: t.day,
-            hour: t.hour,
-            minute: t.minute,
-        },
-        Clocked::Refused(r) => Clock {
-            refusal: of_refusal(r),
-            day: 0,
-            hour: 0,
-            minute: 0,
-        },
+impl From<Result<Time, rules::Refusal>> for Clock {
+    ghost from_gives = { λ c a. a ≡ clocked_of (clock.paper_of c) };
+
+    fn from(c: Result<Time, rules::Refusal>) -> Clock {
+        match c {
+            Ok(t) => Clock {
+                refusal: none(),
+                day: t.day,
+                hour: t.hour,
+                minute: t.minute,
+            },
+            Err(r) => Clock {
+                refusal: Refusal::from(r),
+                day: 0,
+                hour: 0,
+                minute: 0,
+            },
+        }
     }
 }

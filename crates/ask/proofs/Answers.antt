@@ -6,6 +6,7 @@ use Prim.Native.Nat.{ℕ, ◌+◌, ◌≤◌, ◌<◌}
 use native.Mathlib.Omega.{arith}
 use lib.ListN.{length, get_or, drop}
 use borrow.Author.Tests.{lt-ltb, le-ltb}
+use Rattle.std.specs.Prelude.{Result, Ok}
 use Rattle.lists.specs.Rising.{Rising}
 use Rattle.lists.specs.Below.{below}
 use Rattle.lists.specs.Bytes.{Bytes}
@@ -14,10 +15,12 @@ use Rattle.lists.proofs.Below.{below-drop, below-drop_none}
 use Rattle.rules.specs.Limits.{most_steps}
 use Rattle.rules.specs.Refusals.{rank_too_large, no_such_cursor, refusal}
 use Rattle.rules.specs.Paper.{Paper, accepting, refusing}
+use Rattle.rules.specs.declared.Refusal.{Refusal}
 use Rattle.image.proofs.Accepted.{verdict-Accepted}
 use Rattle.image.specs.Taken.{steps_of, Taken}
 use Rattle.image.proofs.Taken.{taken_is}
-use Rattle.read.proofs.Answers.{Yes}
+use Rattle.read.specs.Read as read
+use Rattle.read.proofs.Answers.{answer_Yes}
 use Rattle.ask.specs.Rank as rank
 use Rattle.ask.specs.First as first
 use Rattle.ask.specs.Cursor as cursor
@@ -28,8 +31,9 @@ pub record Kept (s : List ℕ) (n : ℕ) : Type 0 where
   pub count : length (steps_of s) ≡ n
   pub few : n ≤ most_steps
 
-pub kept : {s : List ℕ} {n : ℕ} → Yes s n → Kept s n
-kept {s} y =
+pub kept : {s : List ℕ} {r : Result ℕ Refusal} {n : ℕ} → read.paper_of r ≡ read.check_promise s → r ≡ Ok n → Kept s n
+kept {s} a e =
+    let y = answer_Yes s a e in
     let t = taken_is s y.list y.is in
     record { takes = t.0; count = ap length t.1 ∙ y.count; few = y.few }
 

@@ -1,6 +1,6 @@
 -- What the directory of an accepted image says: the block that holds a rank, and the block that holds the first step at or after a bound.
 -- Assumes nothing.
-use mathlib.Core.Path.{◌≡◌, sym, ap, ◌∙◌, subst}
+use mathlib.Core.Path.{◌≡◌, refl, sym, ap, ◌∙◌, subst}
 use mathlib.Core.Bool.{false}
 use mathlib.Core.List.{List, ◌++◌}
 use Prim.Native.Nat.{ℕ, ◌+◌, ◌-◌, ◌≤◌, ◌<◌}
@@ -19,7 +19,7 @@ use Rattle.image.specs.Taken.{steps_of, Taken, entries_in, payload_in}
 use Rattle.image_directory.specs.declared.Question.{Question}
 use Rattle.image_directory.specs.declared.Question.TheVariants.{Rank, Bound}
 use Rattle.image_directory.specs.declared.Spot.{Spot}
-use Rattle.image_directory.specs.declared.Spot.TheVariants.{Block, Nowhere}
+use Rattle.std.proofs.Common.{Option, None, Some}
 use Rattle.image_directory.specs.Search.{passes, spot_in}
 use Rattle.image_directory.specs.Part.{part_in, Within}
 use Rattle.image_directory.proofs.Whole.{Taken-Open, Taken_blocks}
@@ -78,31 +78,36 @@ module _ (s : List ℕ) (w : Bytes s) (t : Taken s) where
             ∙ get_or-append us l.others 0 j (omega arith);
       }
 
+  -- whatever was asked
+  pub spot_Holds : (q : Question) {b : Before} {e : Entry} → spot_in q s ≡ Some (record { before = b; entry = e }) → Holds s b e
+  spot_Holds q f =
+      holding (subst (Outcome q (λ (b : Before). b ≡ b) (payload_in s) (steps_of s)) f (outcome q (λ (b : Before). b ≡ b) (λ e h. refl) refl))
+
   -- ---- a rank
 
   module _ (k : ℕ) where
-    ranks : {r : Spot} → spot_in (Rank k) s ≡ r → Outcome (Rank k) (λ (b : Before). b.upto ≤ k) (payload_in s) (steps_of s) r
+    ranks : {r : Option Spot} → spot_in (Rank k) s ≡ r → Outcome (Rank k) (λ (b : Before). b.upto ≤ k) (payload_in s) (steps_of s) r
     ranks f =
         subst (Outcome (Rank k) (λ (b : Before). b.upto ≤ k) (payload_in s) (steps_of s)) f
         (outcome (Rank k) (λ (b : Before). b.upto ≤ k) (λ e h. ltb-false k e.upto h) (omega arith))
 
-    pub rank_in_lem : {b : Before} {e : Entry} → spot_in (Rank k) s ≡ Block b e → RankIn s k b e
+    pub rank_in_lem : {b : Before} {e : Entry} → spot_in (Rank k) s ≡ Some (record { before = b; entry = e }) → RankIn s k b e
     rank_in_lem {b} {e} f =
         let l = ranks f in
         record { holds = holding l; from = l.since; upto = ltb-true k e.upto l.test }
 
-    pub rank_out : spot_in (Rank k) s ≡ Nowhere → length (steps_of s) ≤ k
+    pub rank_out : spot_in (Rank k) s ≡ None → length (steps_of s) ≤ k
     rank_out f = let l = ranks f in omega (arith, l.since, reached_length l.reached)
 
   -- ---- a bound
 
   module _ (x : ℕ) where
-    bounds : {r : Spot} → spot_in (Bound x) s ≡ r → Outcome (Bound x) (λ (b : Before). b.next ≤ x) (payload_in s) (steps_of s) r
+    bounds : {r : Option Spot} → spot_in (Bound x) s ≡ r → Outcome (Bound x) (λ (b : Before). b.next ≤ x) (payload_in s) (steps_of s) r
     bounds f =
         subst (Outcome (Bound x) (λ (b : Before). b.next ≤ x) (payload_in s) (steps_of s)) f
         (outcome (Bound x) (λ (b : Before). b.next ≤ x) (λ e h. omega (arith, leb-false x e.last h)) (omega arith))
 
-    pub bound_in : {b : Before} {e : Entry} → spot_in (Bound x) s ≡ Block b e → BoundIn s x b e
+    pub bound_in : {b : Before} {e : Entry} → spot_in (Bound x) s ≡ Some (record { before = b; entry = e }) → BoundIn s x b e
     bound_in {b} {e} f =
         let l = bounds f in
         let us : List ℕ = steps_in b e (part_in s b e) in
@@ -114,7 +119,7 @@ module _ (s : List ℕ) (w : Bytes s) (t : Taken s) where
           rank = reached_below l.reached x l.since ∙ ap (λ (j : ℕ). b.upto + j) (below_left us l.others x n);
         }
 
-    pub bound_out : spot_in (Bound x) s ≡ Nowhere → below (steps_of s) x ≡ length (steps_of s)
+    pub bound_out : spot_in (Bound x) s ≡ None → below (steps_of s) x ≡ length (steps_of s)
     bound_out f =
         let l = bounds f in
         omega (arith, reached_below l.reached x l.since, below-nil x, reached_length l.reached)

@@ -7,6 +7,7 @@ use Prim.Native.Nat.{ℕ, ◌+◌, ◌-◌, ◌^◌, ◌≤◌, ◌<◌}
 use native.Mathlib.Omega.{arith}
 use lib.ListN.{length, get_or, length-append}
 use lib.Seq.{get_or-append-add}
+use Rattle.std.specs.Prelude.{Ok}
 use Rattle.lists.specs.Choice.{pick}
 use Rattle.lists.specs.Rising.{Rising, beyond}
 use Rattle.lists.specs.Parts.{part}
@@ -15,14 +16,13 @@ use Rattle.lists.proofs.Rising.{beyond-append, Rising-append}
 use Rattle.lists.proofs.Below.{below-append}
 use Rattle.image.specs.declared.Entry.{Entry}
 use Rattle.image.specs.declared.Before.{Before}
-use Rattle.image.specs.declared.Fault.TheVariants.{Fine}
 use Rattle.image.specs.Entry.{start, after_entry}
 use Rattle.image.specs.Verdict.{taken, directory_of, blocks_of}
 use Rattle.image.proofs.Directory.{Clean, directory_clean}
 use Rattle.image.proofs.Blocks.{taken_eq, split}
 use Rattle.image_directory.specs.declared.Question.{Question}
 use Rattle.image_directory.specs.declared.Spot.{Spot}
-use Rattle.image_directory.specs.declared.Spot.TheVariants.{Block, Nowhere}
+use Rattle.std.proofs.Common.{Option, None, Some}
 use Rattle.image_directory.specs.Search.{passes, spot_of}
 use Rattle.image_block.specs.Block.{steps_in, Sound}
 use Rattle.image_block.proofs.Steps.{part_size, steps_good, Sound_good, length_steps, beyond_steps, Rising-steps_in}
@@ -91,13 +91,13 @@ pub record Missed (from : Before → Type 0) (xs : List ℕ) : Type 0 where
   pub since : from end
   pub reached : Reached xs end []
 
-abbrev pub Outcome : Question → (Before → Type 0) → List ℕ → List ℕ → Spot → Type 0
-Outcome q from pay xs (Block b e) = Landed q from pay xs b e
-Outcome q from pay xs Nowhere = Missed from xs
+abbrev pub Outcome : Question → (Before → Type 0) → List ℕ → List ℕ → Option Spot → Type 0
+Outcome q from pay xs (Some s) = Landed q from pay xs s.before s.entry
+Outcome q from pay xs None = Missed from xs
 
 module _ (q : Question) (from : Before → Type 0) (fails : (e : Entry) → passes q e ≡ false → from (after_entry e)) (pay xs : List ℕ)
     (few : length pay < 2 ^ 32) where
-  pub lands : (b : Before) (i : ℕ) (es : List Entry) (ys : List ℕ) → from b → Reached xs b ys → directory_of (length pay) b i es ≡ Fine
+  pub lands : (b : Before) (i : ℕ) (es : List Entry) (ys : List ℕ) → from b → Reached xs b ys → directory_of (length pay) b i es ≡ Ok tt
       → blocks_of pay b i es ≡ taken ys
       → Outcome q from pay xs (spot_of q b es)
   lands b i [] ys h r d t = record { end = b; since = h; reached = subst (Reached xs b) (sym (taken_eq t)) r }
@@ -115,7 +115,7 @@ module _ (q : Question) (from : Before → Type 0) (fails : (e : Entry) → pass
           → steps_in b e (part pay b.end e.end) ++ zs ≡ ys
           → (v : Bool) → passes q e ≡ v
           → (passes q e ≡ false → Outcome q from pay xs (spot_of q (after_entry e) es))
-          → Outcome q from pay xs (pick v (Block b e) (spot_of q (after_entry e) es))
+          → Outcome q from pay xs (pick v (Some (record { before = b; entry = e })) (spot_of q (after_entry e) es))
       by c s zs both true f on =
           record { clean = c; sound = s; since = h; test = f; others = zs; reached = subst (Reached xs b) (sym both) r }
       by c s zs both false f on = on f

@@ -1,14 +1,14 @@
 -- A cursor: starting it, its next step, and skipping with it: what is promised.
-use Rattle.std.specs.Prelude.{List, [], ◌∷◌, ℕ, ◌+◌, ltb, length, get_or, drop}
+use Rattle.std.specs.Prelude.{List, [], ◌∷◌, ℕ, ◌+◌, ltb, length, get_or, drop, Result, Ok, Err}
 use Rattle.lists.specs.Choice.{pick}
 use Rattle.lists.specs.Below.{below}
 use Rattle.rules.specs.Refusals.{no_such_cursor, refusal}
 use Rattle.rules.specs.Paper.{Paper, accepting, refusing}
+use Rattle.rules.specs.declared.Refusal.{Refusal}
 use Rattle.image.specs.Verdict.{Verdict, taken, refused, verdict}
-use Rattle.ask.specs.declared.Next.{Next}
 use Rattle.ask.specs.declared.Next.TheVariants as next
-use Rattle.ask.specs.declared.Placed.{Placed}
-use Rattle.ask.specs.declared.Placed.TheVariants as placed
+use Rattle.ask.specs.declared.Next.{Next}
+use Rattle.ask.specs.declared.Cursor.{Cursor}
 
 -- the values of an answer: whether a step was given (1, else 0), the step, and the rank of the cursor that is handed back
 abbrev pub values : ℕ
@@ -22,14 +22,14 @@ abbrev pub standing : ℕ → Paper
 standing k = accepting (0 ∷ 0 ∷ k ∷ [])
 
 -- the numbers of each case
-abbrev pub next_paper : Next → Paper
-next_paper (next.Step m) = giving m.step m.cursor.rank
-next_paper (next.End c) = standing c.rank
-next_paper (next.Refused r) = refusing values r
+abbrev pub next_paper : Result Next Refusal → Paper
+next_paper (Ok (next.Step m)) = giving m.step m.cursor.rank
+next_paper (Ok (next.End c)) = standing c.rank
+next_paper (Err r) = refusing values r
 
-abbrev pub placed_paper : Placed → Paper
-placed_paper (placed.At c) = standing c.rank
-placed_paper (placed.Refused r) = refusing values r
+abbrev pub placed_paper : Result Cursor Refusal → Paper
+placed_paper (Ok c) = standing c.rank
+placed_paper (Err r) = refusing values r
 
 -- 19 where the image has no cursor of this rank: its cursors have the ranks 0 to n
 abbrev pub on_rank : List ℕ → ℕ → Paper → Paper

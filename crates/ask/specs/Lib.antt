@@ -1,3 +1,4 @@
 pub mod Rank
 pub mod First
 pub mod Cursor
+pub mod Inside

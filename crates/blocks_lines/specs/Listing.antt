@@ -1,26 +1,26 @@
 -- What the block lister says of an image: a first line, and a line for each block.
-use Rattle.std.specs.Prelude.{List, [], ◌∷◌, ℕ, ◌-◌, length, get_or}
+use Rattle.std.specs.Prelude.{List, [], ◌∷◌, ℕ, ◌-◌, length, get_or, Result, Ok, Err}
 use Rattle.lists.specs.Parts.{part}
 use Rattle.rules.specs.Numbers.{number_at}
 use Rattle.rules.specs.Paper.{Paper, accepting, refusing}
+use Rattle.rules.specs.declared.Refusal.{Refusal}
 use Rattle.image.specs.declared.Before.{Before}
 use Rattle.image.specs.declared.Entry.{Entry}
 use Rattle.image.specs.Entry.{entry_place, entry_at, before_at}
 use Rattle.image.specs.Block.{block_of}
 use Rattle.image.specs.Verdict.{Verdict, taken, refused, verdict}
 use Rattle.image.specs.Taken.{steps_found, payload_in}
-use Rattle.blocks_lines.specs.declared.Contents.{Contents}
-use Rattle.blocks_lines.specs.declared.Contents.TheVariants.{Holds, Refused}
 use Rattle.blocks_lines.specs.declared.Line.{Line}
+use Rattle.blocks_lines.specs.declared.Contents.{Contents}
 
 -- the values of the first line: blocks, steps, bytes
 abbrev pub values : ℕ
 values = 3
 
 -- the numbers of each case
-abbrev pub paper_of : Contents → Paper
-paper_of (Holds m n b) = accepting (m ∷ n ∷ b ∷ [])
-paper_of (Refused r) = refusing values r
+abbrev pub paper_of : Result Contents Refusal → Paper
+paper_of (Ok c) = accepting (c.blocks ∷ c.steps ∷ c.bytes ∷ [])
+paper_of (Err r) = refusing values r
 
 -- m, n and the image's length where the image is taken, else its refusal
 abbrev pub contents_paper : List ℕ → Verdict → Paper

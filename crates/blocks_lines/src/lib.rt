@@ -2,24 +2,23 @@
 
 #![tactic(auto)]
 
-ghost use Rattle.std.specs.Prelude.{◌≡◌, ◌<◌};
+ghost use Rattle.std.specs.Prelude.{◌≡◌, ◌<◌, Some};
 ghost use Rattle.rules.specs.Numbers.{number_at};
 ghost use Rattle.image.specs.Verdict.{verdict};
 ghost use Rattle.image.specs.Taken.{Takes};
 ghost use Rattle.blocks_lines.specs.Listing.{paper_of, contents_promise, line_at};
+ghost use Rattle.blocks_lines.specs.Shown.{word_of, shown};
 
-use read::Checked;
+use image_block::Block;
 use rules::Refusal;
+use std::fmt;
 
-// The first line: blocks, steps, and bytes of the image, or its refusal.
+// The first line: blocks, steps, and bytes of the image.
 #[derive(Clone, Copy)]
-pub enum Contents {
-    Holds {
-        blocks: usize,
-        steps: usize,
-        bytes: usize,
-    },
-    Refused(Refusal),
+pub struct Contents {
+    pub blocks: usize,
+    pub steps: usize,
+    pub bytes: usize,
 }
 
 // The line of a block: its number, kind, first step, last step, steps and payload bytes.
@@ -33,19 +32,40 @@ pub struct Line {
     pub bytes: usize,
 }
 
+// The word of a kind of block, with a space before it.
+fn word_of(kind: usize) -> &'static str
+    ensures { result.now ≡ word_of kind }
+{
+    if kind == rules::CODES {
+        " vbyte"
+    } else {
+        " bits"
+    }
+}
+
+impl fmt::Display for Line {
+    ghost output = { λ l. Some (shown l) };
+
+    fn fmt<W: fmt::Write>(&self, f: &mut fmt::Formatter<W>) -> fmt::Result {
+        let word = word_of(self.kind);
+        write!(
+            f,
+            "{}{word} {} {} {} {}",
+            self.number, self.first, self.last, self.steps, self.bytes
+        )
+    }
+}
+
 // What the image holds, or the refusal of the check.
-pub fn contents_of(image: &[u8]) -> Contents
+pub fn contents_of(image: &[u8]) -> Result<Contents, Refusal>
     ensures { paper_of result ≡ contents_promise image.now }
 {
-    let c = read::check(image);
-    match c {
-        Checked::Refused(r) => Contents::Refused(r),
-        Checked::Accepted { steps } => Contents::Holds {
-            blocks: rules::number_at(image, 0),
-            steps: steps as usize,
-            bytes: image.len(),
-        },
-    }
+    let steps = read::check(image)?;
+    Ok(Contents {
+        blocks: rules::number_at(image, 0),
+        steps: steps as usize,
+        bytes: image.len(),
+    })
 }
 
 // The line of a block of an image that is accepted.
@@ -56,16 +76,18 @@ pub fn line_at(image: &[u8], i: usize) -> Line
     let b = image_directory::before(image, i);
     let e = image_directory::entry(image, i);
     let part = image_directory::part(image, b, e);
-    let first = image_block::step_in(part, b, e, 0);
-    let earlier = b.upto;
-    let from = b.end;
-    let to = e.end;
+    let block = Block {
+        part,
+        before: b,
+        entry: e,
+    };
+    let first = block.step_at(0);
     Line {
         number: i,
         kind: e.kind,
         first,
         last: e.last,
-        steps: e.upto - earlier,
-        bytes: to - from,
+        steps: e.upto - b.upto,
+        bytes: e.end - b.end,
     }
 }

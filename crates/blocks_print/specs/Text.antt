@@ -1,22 +1,15 @@
 -- The text that the block lister prints for an image, in the words of document 01.
-use Rattle.std.specs.Prelude.{List, [], ◌++◌, ℕ, zero, suc, length, codes, decimal, ◌==◌, nat_lt, if◌then◌else◌}
+use Rattle.std.specs.Prelude.{List, [], ◌++◌, ℕ, zero, suc, length, codes, decimal, nat_lt, if◌then◌else◌}
 use Rattle.rules.specs.Numbers.{number_at}
 use Rattle.rules.specs.declared.Refusal.{Refusal}
 use Rattle.image.specs.Verdict.{Verdict, taken, refused, verdict}
 use Rattle.blocks_lines.specs.declared.Line.{Line}
 use Rattle.blocks_lines.specs.Listing.{line_at}
+use Rattle.blocks_lines.specs.Shown.{another, word_of}
 
 -- the longest input that is read, in bytes
 abbrev pub longest : ℕ
 longest = 65536
-
--- a number with a space before it
-abbrev pub another : ℕ → List ℕ
-another x = codes " " ++ decimal x
-
--- the word of a kind of block, with a space before it
-abbrev pub word_of : ℕ → List ℕ
-word_of kind = if kind == 0 then codes " vbyte" else codes " bits"
 
 -- the line of a block
 abbrev pub line_text : Line → List ℕ

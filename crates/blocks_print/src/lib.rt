@@ -8,88 +8,25 @@ ghost use Rattle.std.specs.Io.KnownBytes.{Appends};
 ghost use Rattle.rules.specs.Numbers.{number_at};
 ghost use Rattle.image.specs.Verdict.{verdict};
 ghost use Rattle.image.specs.Taken.{Takes};
-ghost use Rattle.blocks_print.specs.Text.{longest, another, word_of, line_text, lines_text, first_line, refusal_line, listing, report};
+ghost use Rattle.blocks_print.specs.Text.{longest, lines_text, listing, report};
 
-use blocks_lines::{Contents, Line};
-use rules::Refusal;
+use blocks_lines::Contents;
 use std::io;
 use std::io::{Read, Write};
 
 // Document 01: the longest input that is read, in bytes.
 const LONGEST: usize = 65536;
 
-// Prints a number with a space before it.
-pub fn another<W: Write>(out: &mut W, x: usize) -> io::Result<()>
-    ensures { OnOk result (Appends (W.contents out.old) (W.contents out.new) (another x)) }
-{
-    write!(out, " {x}")
-}
-
-// The word of a kind of block, with a space before it.
-fn word_of(kind: usize) -> &'static [u8]
-    ensures { result.now ≡ word_of kind }
-{
-    if kind == rules::CODES {
-        b" vbyte"
-    } else {
-        b" bits"
-    }
-}
-
-// Prints the line of a block.
-fn print_line<W: Write>(out: &mut W, l: Line) -> io::Result<()>
-    ensures { OnOk result (Appends (W.contents out.old) (W.contents out.new) (line_text l)) }
-{
-    let number = l.number;
-    write!(out, "{number}")?;
-    out.write_all(word_of(l.kind))?;
-    another(out, l.first)?;
-    another(out, l.last)?;
-    another(out, l.steps)?;
-    another(out, l.bytes)?;
-    out.write_all(b"\n")
-}
-
 // Prints the lines of all blocks.
 fn print_lines<W: Write>(out: &mut W, image: &[u8], blocks: usize) -> io::Result<()>
     requires { Takes (verdict image.now) × (blocks ≡ number_at image.now 0) }
     ensures { OnOk result (Appends (W.contents out.old) (W.contents out.new) (lines_text image.now blocks)) }
 {
-    let mut i: usize = 0;
-    while i < blocks {
-        print_line(out, blocks_lines::line_at(image, i))?;
-        i += 1;
+    for i in 0..blocks {
+        let line = blocks_lines::line_at(image, i);
+        writeln!(out, "{line}")?;
     }
     Ok(())
-}
-
-// Prints the first line of an image that is accepted.
-fn print_contents<W: Write>(
-    out: &mut W,
-    blocks: usize,
-    steps: usize,
-    bytes: usize,
-) -> io::Result<()>
-    ensures { OnOk result (Appends (W.contents out.old) (W.contents out.new) (first_line blocks steps bytes)) }
-{
-    out.write_all(b"blocks")?;
-    another(out, blocks)?;
-    out.write_all(b" steps")?;
-    another(out, steps)?;
-    out.write_all(b" bytes")?;
-    another(out, bytes)?;
-    out.write_all(b"\n")
-}
-
-// Prints the only line of an image that is refused.
-pub fn print_refusal<W: Write>(out: &mut W, r: Refusal) -> io::Result<()>
-    ensures { OnOk result (Appends (W.contents out.old) (W.contents out.new) (refusal_line r)) }
-{
-    out.write_all(b"refused")?;
-    another(out, r.number as usize)?;
-    out.write_all(b" at")?;
-    another(out, r.place as usize)?;
-    out.write_all(b"\n")
 }
 
 // Prints the list of an image.
@@ -97,19 +34,22 @@ pub fn list<W: Write>(out: &mut W, image: &[u8]) -> io::Result<()>
     ensures { OnOk result (Appends (W.contents out.old) (W.contents out.new) (listing image.now)) }
 {
     match blocks_lines::contents_of(image) {
-        Contents::Holds {
-            blocks,
-            steps,
-            bytes,
-        } => {
-            print_contents(out, blocks, steps, bytes)?;
+        Ok(
+            Contents {
+                blocks,
+                steps,
+                bytes,
+            },
+        ) => {
+            writeln!(out, "blocks {blocks} steps {steps} bytes {bytes}")?;
             print_lines(out, image, blocks)
         }
-        Contents::Refused(r) => print_refusal(out, r),
+        Err(r) => writeln!(out, "refused {} at {}", r.number, r.place),
     }
 }
 
 // Fills a buffer from its front with what a reader gives, until it is full or nothing is left, and says how many bytes those are.
+// Kept: how far one read gets is known only after it, so no `for` says how far the next one begins.
 fn fill<R: Read>(from: &mut R, buffer: &mut [u8]) -> io::Result<usize>
     ensures within { IfOk result (λ n. n ≤ length buffer.new) }
     ensures front { IfOk result (λ n. IfSome (R.remaining from.old) (λ xs. take n buffer.new ≡ take (length buffer.new) xs)) }
@@ -133,7 +73,7 @@ pub fn run<R: Read, W: Write>(from: &mut R, out: &mut W) -> io::Result<()>
     let mut image = [0u8; LONGEST + 1];
     let n = fill(from, &mut image)?;
     if n > LONGEST {
-        return out.write_all(b"too long\n");
+        return writeln!(out, "too long");
     }
     list(out, &image[..n])
 }

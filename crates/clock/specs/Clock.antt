@@ -1,19 +1,19 @@
 -- The clock of a step, and what is promised of it.
-use Rattle.std.specs.Prelude.{[], ◌∷◌, ℕ, ◌+◌, ◌*◌, ◌/◌, ◌%◌, ltb}
+use Rattle.std.specs.Prelude.{[], ◌∷◌, ℕ, ◌+◌, ◌*◌, ◌/◌, ◌%◌, ltb, Ok, Err, Result}
 use Rattle.lists.specs.Choice.{pick}
 use Rattle.rules.specs.Refusals.{not_in_the_year, refusal}
 use Rattle.rules.specs.Paper.{Paper, accepting, refusing}
-use Rattle.clock.specs.declared.Clocked.{Clocked}
-use Rattle.clock.specs.declared.Clocked.TheVariants.{At, Refused}
+use Rattle.rules.specs.declared.Refusal.{Refusal}
+use Rattle.clock.specs.declared.Time.{Time}
 
 -- the values of an answer: day, hour, minute
 abbrev pub values : ℕ
 values = 3
 
 -- the numbers of each case
-abbrev pub paper_of : Clocked → Paper
-paper_of (At t) = accepting (t.day ∷ t.hour ∷ t.minute ∷ [])
-paper_of (Refused r) = refusing values r
+abbrev pub paper_of : Result Time Refusal → Paper
+paper_of (Ok t) = accepting (t.day ∷ t.hour ∷ t.minute ∷ [])
+paper_of (Err r) = refusing values r
 
 -- the steps of a day and of an hour, the minutes of a step, the days of a year
 abbrev pub day_steps : ℕ

@@ -27,21 +27,14 @@ pub struct Time {
     pub minute: u32,
 }
 
-// What the clock answers for a step.
-#[derive(Clone, Copy)]
-pub enum Clocked {
-    At(Time),
-    Refused(Refusal),
-}
-
 // When a step is, or the refusal of a step after the year's last.
-pub fn clock_of(step: u32) -> Clocked
+pub fn clock_of(step: u32) -> Result<Time, Refusal>
     ensures { paper_of result ≡ promised step }
 {
     if step >= DAY_STEPS * YEAR_DAYS {
-        return Clocked::Refused(rules::refuse(rules::NOT_IN_THE_YEAR, 0));
+        return Err(rules::refuse(rules::NOT_IN_THE_YEAR, 0));
     }
-    Clocked::At(Time {
+    Ok(Time {
         day: step / DAY_STEPS + 1,
         hour: step % DAY_STEPS / HOUR_STEPS,
         minute: step % HOUR_STEPS * STEP_MINUTES,

@@ -1,6 +1,6 @@
 -- THE LAWS of the byte code: all that the crates above may know of it. A code has 1 to 4 bytes; reading what was written gives the
 -- value, whatever stands after it; what reads as a value is that value's code; a value has one code; what is refused is no code.
-use Rattle.std.specs.Prelude.{◌≡◌, refl, List, [], ◌∷◌, ◌++◌, ℕ, zero, suc, ◌+◌, ◌-◌, ◌*◌, ◌/◌, ◌%◌, ◌^◌, ◌≤◌, ◌<◌, length, get_or, drop}
+use Rattle.std.specs.Prelude.{◌≡◌, refl, List, [], ◌∷◌, ◌++◌, ℕ, zero, suc, ◌+◌, ◌-◌, ◌*◌, ◌/◌, ◌%◌, ◌^◌, ◌≤◌, ◌<◌, length, get_or, drop, Result, Ok, Err}
 use Rattle.std.proofs.Common.{sym, ap, ◌∙◌, append_assoc, arith, pow-suc, length-append}
 use Rattle.std.proofs.Math.Decide.{ℕ_discrete}
 use Rattle.lists.specs.Bytes.{Bytes}
@@ -8,8 +8,8 @@ use Rattle.lists.proofs.Choice.{by_lt}
 use Rattle.lists.proofs.Parts.{drop_one, drop_run}
 use Rattle.lists.proofs.Bytes.{Bytes-nil, Bytes-cons, Bytes-append}
 use Rattle.code.specs.declared.Flaw.{Flaw}
-use Rattle.code.specs.declared.Reading.TheVariants.{Code, Bad}
-use Rattle.code.specs.Code.Open.{one_group, code_values, flag, code_of, code_size, read_at}
+use Rattle.code.specs.declared.Reading.{Reading}
+use Rattle.code.specs.Code.Open.{one_group, code_values, flag, code_of, code_size, reading, read_at}
 use Rattle.code.specs.Code.Inside.{
   code_one_byte,
   size_one,
@@ -71,7 +71,7 @@ bytes_code x l =
 
 -- what was written is read, whatever stands after it
 pub read_code : (s : List ℕ) (at x : ℕ) (rest : List ℕ) → x < code_values → drop at s ≡ code_of x ++ rest
-    → read_at s at ≡ Code x (at + code_size x)
+    → read_at s at ≡ Ok (reading x (at + code_size x))
 read_code s at x rest l e =
     let us = flags 3 (x / one_group) in
     let b = x % one_group in
@@ -83,19 +83,22 @@ read_code s at x rest l e =
     in
     read_last (drop_run s at us (b ∷ rest) f) r (omega arith) (omega arith) (omega arith)
 
-bad_code_lem : {X : Type 0} {w : Flaw} {x n : ℕ} → Bad w ≡ Code x n → X
+-- what is read has one value, and one place after it
+reading_same : {x y n m : ℕ} → ◌≡◌ {A = Result Reading Flaw} (Ok (reading x n)) (Ok (reading y m)) → (x ≡ y) × (n ≡ m)
+reading_same {x} {y} {n} {m} e =
+    let r : reading x n ≡ reading y m = cc in
+    (ap (λ (c : Reading). c.value) r, ap (λ (c : Reading). c.next) r)
+
+bad_code_lem : {X : Type 0} {w : Flaw} {x n : ℕ} → Err w ≡ Ok (reading x n) → X
 bad_code_lem e = let z : ◌≡◌ {A = ℕ} 0 1 = cc in absurd (omega arith)
 
 -- for a reader: codes that are equal, with anything after them, are of one value
 pub code_one : (x y : ℕ) (r q : List ℕ) → x < code_values → y < code_values → code_of x ++ r ≡ code_of y ++ q → x ≡ y
 code_one x y r q hx hy e =
-    let p : Code x (0 + code_size x) ≡ Code y (0 + code_size y) =
-    sym (read_code (code_of x ++ r) 0 x r hx refl) ∙ read_code (code_of x ++ r) 0 y q hy e
-    in
-    cc
+    (reading_same (sym (read_code (code_of x ++ r) 0 x r hx refl) ∙ read_code (code_of x ++ r) 0 y q hy e)).0
 
 -- for a reader: what is refused is no code
-pub bad_no_code : (s : List ℕ) (at : ℕ) (w : Flaw) → read_at s at ≡ Bad w → (x : ℕ) (rest : List ℕ) → x < code_values
+pub bad_no_code : (s : List ℕ) (at : ℕ) (w : Flaw) → read_at s at ≡ Err w → (x : ℕ) (rest : List ℕ) → x < code_values
     → drop at s ≡ code_of x ++ rest
     → ⊥
 bad_no_code s at w b x rest l e = bad_code_lem (sym b ∙ read_code s at x rest l e)
@@ -136,16 +139,16 @@ passed_on {s} {at} {k} {p} {h} w t j m g lead =
       bytes = t.bytes ∙ rw (drop_one s p 0 m, v) (sym (append_assoc (flags k h) (b ∷ []) (drop (p + 1) s)));
     }
 
-module _ (s : List ℕ) (at x n : ℕ) (w : Bytes s) (e : read_at s at ≡ Code x n) where
+module _ (s : List ℕ) (at x n : ℕ) (w : Bytes s) (e : read_at s at ≡ Ok (reading x n)) where
   -- a byte without the flag is the code's last
   sound_last : {i k p h : ℕ} → Passed s at k p h → Reached s at i p h → p < length s → get_or s p 0 < flag → Read s at x n
   sound_last {i} {k} {p} {h} t r m g =
       let b = get_or s p 0 in
       let us = flags k h in
       let d : drop p s ≡ b ∷ drop (p + 1) s = drop_one s p 0 m in
-      let c : Code x n ≡ Code (h * one_group + b) (p + 1) = sym e ∙ read_last d r g refl refl in
-      let ex : x ≡ h * one_group + b = cc in
-      let en : n ≡ p + 1 = cc in
+      let c = reading_same (sym e ∙ read_last d r g refl refl) in
+      let ex : x ≡ h * one_group + b = c.0 in
+      let en : n ≡ p + 1 = c.1 in
       let f = code_last k h b t.few t.small g in
       let o : code_of x ≡ us ++ (b ∷ []) = ap code_of ex ∙ f.1 in
       let z : code_size x ≡ length us + 1 = sym (length_code x) ∙ ap length o ∙ length-append us (b ∷ []) in

@@ -7,4 +7,4 @@ pub mod Read
 -- the values of one, two and three groups of seven bits, the numbers that have a code, and the high bit of a byte
 pub use Rattle.code.specs.Code.Open.{one_group, two_groups, three_groups, code_values, flag}
 -- the code of a number, its size, and what stands at a place
-pub use Rattle.code.specs.Code.Open.{code_of, code_size, read_at}
+pub use Rattle.code.specs.Code.Open.{code_of, code_size, reading, read_at}

@@ -8,8 +8,8 @@ use native.Mathlib.Omega.{arith}
 use lib.ListN.{length, get_or}
 use Rattle.lists.proofs.Choice.{by_lt}
 use Rattle.lists.proofs.Parts.{drop_one}
-use Rattle.code.specs.declared.Reading.TheVariants.{Code}
-use Rattle.code.specs.Code.{one_group, two_groups, three_groups, flag, read_at}
+use Rattle.std.specs.Prelude.{Ok}
+use Rattle.code.specs.Code.{one_group, two_groups, three_groups, flag, reading, read_at}
 use Rattle.code.specs.Code.Inside.{Reached, read_first, read_last, read_on}
 use Rattle.code_stretch.specs.Inside.Bytewise.{weight_at, last_at, wrong_at, between, Added}
 use Rattle.code_stretch.specs.Runs.{Passed}
@@ -81,7 +81,7 @@ record One (s : List ℕ) (at n : ℕ) : Type 0 where
   from : at ≤ end
   to : end < n
   closed : get_or s end 0 < flag
-  read : read_at s at ≡ Code (between (weight_at s) at (end + 1)) (end + 1)
+  read : read_at s at ≡ Ok (reading (between (weight_at s) at (end + 1)) (end + 1))
   many : between (last_at s) at (end + 1) ≡ 1
 
 -- the sum over one place
@@ -269,17 +269,19 @@ module _ (s : List ℕ) (at : ℕ) where
         within = t.within;
       }
 
-pub Singles_turn : {s : List ℕ} {at i value largest b m : ℕ} → Singles s at i value largest → at ≤ i → i < length s → b ≡ get_or s i 0
+pub Singles_turn : {s : List ℕ} {at value largest b m : ℕ} (k : ℕ) → Singles s at (at + k) value largest → at + k < length s → b ≡ get_or s (at + k) 0
     → b < 256
     → (largest ≤ m) × (b ≤ m)
-    → Singles s at (i + 1) (value + b) m
-Singles_turn {s} {at} {i} t h l e k g =
-    record {
+    → Singles s at (at + (k + 1)) (value + b) m
+Singles_turn {s} {at} {value} {largest} {b} {m} k t l e small g =
+    let q : at + k + 1 ≡ at + (k + 1) = omega arith in
+    subst (λ (i : ℕ). Singles s at i (value + b) m) q
+    (record {
       then =
           λ z r.
-          Passed_as (t.then (omega (arith, g.0)) (Passed_single s i l (omega (arith, e, g.1)) r)) (omega arith) (omega (arith, e));
+          Passed_as (t.then (omega (arith, g.0)) (Passed_single s (at + k) l (omega (arith, e, g.1)) r)) (omega arith) (omega (arith, e));
       small = omega (arith, t.small);
-    }
+    })
 
 pub Singles_end : {s : List ℕ} {at i value largest : ℕ} (c : ℕ) → Singles s at i value largest → i ≡ at + c → largest < flag
     → i ≤ length s

@@ -1,7 +1,6 @@
 -- Codes that stand one after the other.
-use Rattle.std.specs.Prelude.{◌≡◌, List, [], ◌∷◌, ℕ, ◌+◌, ◌≤◌, length}
-use Rattle.code.specs.declared.Reading.TheVariants.{Code}
-use Rattle.code.specs.Code.{read_at}
+use Rattle.std.specs.Prelude.{◌≡◌, List, [], ◌∷◌, ℕ, ◌+◌, ◌≤◌, length, Ok}
+use Rattle.code.specs.Code.{reading, read_at}
 
 -- the bytes that have to be there for codes to be passed at once: 64 are added up, the last code goes on in at most three more, and what is learnt
 -- of a byte depends on the next three
@@ -11,7 +10,7 @@ reach = 70
 -- the codes from `at` to before `n` are those of `xs`
 abbrev pub Run : List ℕ → ℕ → List ℕ → ℕ → Type 0
 Run s at [] n = at ≡ n
-Run s at (x ∷ xs) n = (m : ℕ) × (read_at s at ≡ Code x m) × Run s m xs n
+Run s at (x ∷ xs) n = (m : ℕ) × (read_at s at ≡ Ok (reading x m)) × Run s m xs n
 
 -- the sum of values
 abbrev pub sum_of : List ℕ → ℕ

@@ -3,8 +3,8 @@
 
 #![tactic(auto)]
 
-ghost use Rattle.std.specs.Prelude.{◌≡◌, ◌+◌, ◌-◌, ◌*◌, ◌≤◌, ◌<◌, length, get_or};
-ghost use Rattle.code.specs.Code.{one_group, two_groups, three_groups, flag, code_values};
+ghost use Rattle.std.specs.Prelude.{◌≡◌, ◌+◌, ◌-◌, ◌*◌, ◌≤◌, ◌<◌, length, get_or, true, IfSome};
+ghost use Rattle.code.specs.Code.{one_group, two_groups, three_groups, flag};
 ghost use Rattle.code_stretch.specs.Inside.Bytewise.{stretch, Shares, Added};
 ghost use Rattle.code_stretch.specs.Runs.{reach, Passed};
 
@@ -13,10 +13,7 @@ const STRETCH: usize = 64;
 
 // Free: it follows from the stretch, the proofs know it as `reach`. Bytes that have to be there to pass one: the last code may go on in three
 // more, and what a byte says depends on the next three.
-pub const REACH: usize = 70;
-
-// Free: any number but 0. What counts for something that is wrong.
-const FAULT: usize = 1;
+const REACH: usize = 70;
 
 // Document 01: how much more a group is worth where one byte follows it in its code than where none does.
 const SECOND: usize = 127;
@@ -29,6 +26,7 @@ const FOURTH: usize = 2080768;
 
 // What a byte and the next three say of it: the shares of what it adds to its code's value, whether a code ends with it, whether
 // something is wrong.
+// Kept: flags as numbers are no less plain, since they are added up over a stretch and tested once.
 #[derive(Clone, Copy)]
 struct Share {
     low: u8,
@@ -107,8 +105,7 @@ fn tally(s: &[u8], at: usize, upto: usize) -> Sums
     let mut fourth: u16 = 0;
     let mut ends: u16 = 0;
     let mut flaws: u16 = 0;
-    let mut i = at;
-    while i < upto {
+    for i in at..upto {
         let x = weigh(s[i], s[i + 1], s[i + 2], s[i + 3]);
         low += x.low as u16;
         second += x.second as u16;
@@ -116,7 +113,6 @@ fn tally(s: &[u8], at: usize, upto: usize) -> Sums
         fourth += x.fourth as u16;
         ends += x.ends as u16;
         flaws += x.flaws as u16;
-        i += 1;
     }
     Sums {
         value: joined(low, second, third, fourth),
@@ -142,87 +138,65 @@ fn closing(s: &[u8], at: usize) -> usize
     at + 3
 }
 
-// 0 where a part starts as a code may and ends as one does.
-fn unframed(s: &[u8], at: usize, end: usize) -> usize
+// Whether a part starts as a code may and ends as one does.
+fn framed(s: &[u8], at: usize, end: usize) -> bool
     requires { (at < end) × (end ≤ length s.now) }
-    ensures { (result < 2) × (result ≡ 0 → (get_or s.now at 0 ≡ flag → ⊥) × (get_or s.now (end - 1) 0 < flag)) }
+    ensures { result ≡ true → (get_or s.now at 0 ≡ flag → ⊥) × (get_or s.now (end - 1) 0 < flag) }
 {
-    if s[at] == code::HIGH {
-        return FAULT;
-    }
-    if s[end - 1] < code::HIGH {
-        return 0;
-    }
-    FAULT
+    s[at] != code::HIGH && s[end - 1] < code::HIGH
 }
 
 // Passes the codes of a stretch, of any sizes, from the first byte of a code on, or none where something is wrong.
-fn pass_mixed(s: &[u8], at: usize) -> Stretch
+fn pass_mixed(s: &[u8], at: usize) -> Option<Stretch>
     requires { at + reach ≤ length s.now }
-    ensures { at < result.after → Passed s.now at result.after result.count result.value }
+    ensures { IfSome result (λ t. (at < t.after) × Passed s.now at t.after t.count t.value) }
 {
     let upto = at + STRETCH;
     let end = closing(s, upto);
     let most = tally(s, at, upto);
     let rest = tally(s, upto, end);
-    if most.flaws + rest.flaws + unframed(s, at, end) == 0 {
-        return Stretch {
+    if most.flaws + rest.flaws == 0 && framed(s, at, end) {
+        return Some(Stretch {
             count: most.ends + rest.ends,
             value: most.value + rest.value,
             after: end,
-        };
+        });
     }
-    Stretch {
-        count: 0,
-        value: 0,
-        after: at,
-    }
+    None
 }
 
-// The larger of two bytes.
-fn larger(x: u8, y: u8) -> u8
-    ensures { (x ≤ result) × (y ≤ result) }
-{
-    if x < y {
-        return y;
-    }
-    x
-}
-
-// The sum of a stretch's bytes where each is a code by itself, else the number of values.
-fn singles(s: &[u8], at: usize) -> usize
+// The sum of a stretch's bytes where each is a code by itself.
+fn singles(s: &[u8], at: usize) -> Option<usize>
     requires { at + stretch ≤ length s.now }
-    ensures { result < code_values → Passed s.now at (at + stretch) stretch result }
+    ensures { IfSome result (Passed s.now at (at + stretch) stretch) }
 {
-    let upto = at + STRETCH;
     let mut value: u16 = 0;
     let mut largest: u8 = 0;
-    let mut i = at;
-    while i < upto {
-        let a = s[i];
+    for &a in &s[at..at + STRETCH] {
         value += a as u16;
-        largest = larger(largest, a);
-        i += 1;
+        largest = largest.max(a);
     }
     if largest < code::HIGH {
-        return value as usize;
+        return Some(value as usize);
     }
-    code::CODE_VALUES
+    None
 }
 
-// Passes many codes at once, from the first byte of a code on, in less time where each is a single byte. Where something is wrong it
-// passes none, and the codes have to be read one by one.
-pub fn pass(s: &[u8], at: usize) -> Stretch
-    requires { at + reach ≤ length s.now }
-    ensures { at < result.after → Passed s.now at result.after result.count result.value }
+// Passes many codes at once, from the first byte of a code on, in less time where each is a single byte. Where something is wrong, or too few
+// bytes are left, it passes none, and the codes have to be read one by one.
+pub fn pass(s: &[u8], at: usize) -> Option<Stretch>
+    requires { at ≤ length s.now }
+    ensures { IfSome result (λ t. (at < t.after) × Passed s.now at t.after t.count t.value) }
 {
-    let value = singles(s, at);
-    if value < code::CODE_VALUES {
-        return Stretch {
+    if s.len() - at < REACH {
+        return None;
+    }
+    if let Some(value) = singles(s, at) {
+        return Some(Stretch {
             count: STRETCH,
             value,
             after: at + STRETCH,
-        };
+        });
     }
     pass_mixed(s, at)
 }

@@ -17,8 +17,8 @@ use Rattle.lists.proofs.Gaps.{from_gaps-gaps, gaps-from_gaps, Rising-from_gaps}
 use Rattle.lists.proofs.Bytes.{Bytes-nil, Bytes-append}
 use Rattle.code.specs.declared.Flaw.{Flaw}
 use Rattle.code.specs.declared.Reading.{Reading}
-use Rattle.code.specs.declared.Reading.TheVariants.{Code, Bad}
-use Rattle.code.specs.Code.{code_values, code_of, code_size, read_at}
+use Rattle.std.specs.Prelude.{Result, Ok, Err}
+use Rattle.code.specs.Code.{code_values, code_of, code_size, reading, read_at}
 use Rattle.code.specs.Code.Read.{Read}
 use Rattle.code.proofs.Laws.{length_code, size_least, size_most, bytes_code, read_code, read_sound}
 use Rattle.codes.specs.Codes.{
@@ -64,11 +64,11 @@ module _ (s : List ℕ) (at : ℕ) where
   unfolding values_from run
   values_after h = let e : length s - at ≡ suc (length s - suc at) = omega arith in rw e
 
-  pub values_bad : (w : Flaw) → at < length s → read_at s at ≡ Bad w → values_from s at ≡ bad w at
+  pub values_bad : (w : Flaw) → at < length s → read_at s at ≡ Err w → values_from s at ≡ bad w at
   unfolding after
   values_bad w h e = values_after h ∙ rw e
 
-  pub values_more : {x n : ℕ} → Read s at x n → read_at s at ≡ Code x n → values_from s at ≡ on_top x (values_from s n)
+  pub values_more : {x n : ℕ} → Read s at x n → read_at s at ≡ Ok (reading x n) → values_from s at ≡ on_top x (values_from s n)
   unfolding after values_from
   values_more {x} {n} r e =
       let h : at < n = Read_passes r in
@@ -85,9 +85,9 @@ module _ (s : List ℕ) (at : ℕ) where
       → X
   by_code {X} w end wrong right = by_lt at (length s) (λ h. here h (read_at s at) refl) end
     where
-      here : at < length s → (r : Reading) → read_at s at ≡ r → X
-      here h (Code x n) e = let f = read_sound s at x n w e in right x n f (values_more f e)
-      here h (Bad v) e = wrong v (values_bad v h e)
+      here : at < length s → (r : Result Reading Flaw) → read_at s at ≡ r → X
+      here h (Ok c) e = let f = read_sound s at c.value c.next w e in right c.value c.next f (values_more f e)
+      here h (Err v) e = wrong v (values_bad v h e)
 
 -- ---- the codes of values that are written are read
 
@@ -148,10 +148,10 @@ module _ (o : ℕ) (s : List ℕ) (at : ℕ) where
   pub steps_end : length s ≤ at → steps_from o s at ≡ all []
   steps_end h = ap (as_steps o) (values_end s at h)
 
-  pub steps_bad : (w : Flaw) → at < length s → read_at s at ≡ Bad w → steps_from o s at ≡ bad w at
+  pub steps_bad : (w : Flaw) → at < length s → read_at s at ≡ Err w → steps_from o s at ≡ bad w at
   steps_bad w h e = ap (as_steps o) (values_bad s at w h e)
 
-  pub steps_more : {x n : ℕ} → Read s at x n → read_at s at ≡ Code x n → steps_from o s at ≡ on_top (o + x) (steps_from (o + x + 1) s n)
+  pub steps_more : {x n : ℕ} → Read s at x n → read_at s at ≡ Ok (reading x n) → steps_from o s at ≡ on_top (o + x) (steps_from (o + x + 1) s n)
   steps_more {x} {n} r e = ap (as_steps o) (values_more s at r e) ∙ as_steps-on_top o x (values_from s n) ∙ rw (add-one (o + x))
 
 pub Rising_steps : (o : ℕ) (s : List ℕ) (at : ℕ) → Rising o (list_of (steps_from o s at))

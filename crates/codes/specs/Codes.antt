@@ -1,13 +1,12 @@
 -- A block of codes: for each step the code of its gap. This goes by the laws of the byte code alone.
-use Rattle.std.specs.Prelude.{◌≡◌, List, [], ◌∷◌, ◌++◌, ℕ, zero, suc, ◌+◌, ◌-◌, ◌^◌, ◌≤◌, ◌<◌, length}
+use Rattle.std.specs.Prelude.{◌≡◌, List, [], ◌∷◌, ◌++◌, ℕ, zero, suc, ◌+◌, ◌-◌, ◌^◌, ◌≤◌, ◌<◌, length, Result, Ok, Err}
 use Rattle.lists.specs.Rising.{beyond}
 use Rattle.lists.specs.Gaps.{gaps, from_gaps}
 use Rattle.code.specs.declared.Flaw.{Flaw}
 use Rattle.code.specs.declared.Reading.{Reading}
-use Rattle.code.specs.declared.Reading.TheVariants.{Code, Bad}
 use Rattle.code.specs.Code.{code_values, code_of, read_at}
 use Rattle.codes.specs.declared.Tally.{Tally}
-use Rattle.codes.specs.declared.Tally.TheVariants.{Steps, Wrong}
+use Rattle.codes.specs.declared.Wrong.{Wrong}
 
 -- what a run of codes stands for: all of its values, or why and where the first code that fails
 pub data Values : Type 0 where
@@ -19,10 +18,10 @@ abbrev pub on_top : ℕ → Values → Values
 on_top x (all xs) = all (x ∷ xs)
 on_top x (bad w n) = bad w n
 
--- the code that was read at `at` ends before `n`; `rest` goes on with the bytes of it that are still to be passed
-unfoldable pub after : Reading → ℕ → (ℕ → Values) → Values
-after (Code x n) at rest = on_top x (rest (n - suc at))
-after (Bad w) at rest = bad w at
+-- what was read at `at` is a code or fails; `rest` goes on with the bytes of it that are still to be passed
+unfoldable pub after : Result Reading Flaw → ℕ → (ℕ → Values) → Values
+after (Ok c) at rest = on_top c.value (rest (c.next - suc at))
+after (Err w) at rest = bad w at
 
 -- `k` bytes are left, of which the first `j` are a code's that was read already
 unfoldable pub run : ℕ → ℕ → List ℕ → ℕ → Values
@@ -62,10 +61,18 @@ abbrev pub list_of : Values → List ℕ
 list_of (all xs) = xs
 list_of (bad w n) = []
 
+-- so many steps, and one past the last of them
+abbrev pub tally : ℕ → ℕ → Tally
+tally count next = record { count = count; next = next }
+
+-- why a code fails, and where
+abbrev pub wrong : Flaw → ℕ → Wrong
+wrong w n = record { flaw = w; at = n }
+
 -- how many steps were found and one past the last of them, after `c` steps that end before `o`
-abbrev pub tally_of : ℕ → ℕ → Values → Tally
-tally_of c o (all xs) = Steps (c + length xs) (beyond o xs)
-tally_of c o (bad w n) = Wrong w n
+abbrev pub tally_of : ℕ → ℕ → Values → Result Tally Wrong
+tally_of c o (all xs) = Ok (tally (c + length xs) (beyond o xs))
+tally_of c o (bad w n) = Err (wrong w n)
 
 -- a block whose codes are all good, with steps that fit 32 bits
 pub record Sound (o : ℕ) (v : Values) : Type 0 where

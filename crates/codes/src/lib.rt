@@ -3,27 +3,29 @@
 
 #![tactic(auto)]
 
-ghost use Rattle.std.specs.Prelude.{◌≡◌, ◌+◌, ◌*◌, ◌^◌, ◌≤◌, ◌<◌, length, get_or};
+ghost use Rattle.std.specs.Prelude.{List, ℕ, ◌≡◌, ◌+◌, ◌*◌, ◌^◌, ◌≤◌, ◌<◌, length, get_or};
 ghost use Rattle.lists.specs.Below.{below};
+ghost use Rattle.lists.specs.Bytes.{Bytes};
 ghost use Rattle.lists.specs.Stores.{Puts};
 ghost use Rattle.code.specs.Code.{code_values};
 ghost use Rattle.codes.specs.Codes.{steps_from, tally_of, list_of, Sound};
-ghost use Rattle.codes.specs.Inside.Turn.{Turn};
+ghost use Rattle.std.specs.Iterator.{YieldsFirst, item_count};
 
-use code::{Flaw, Reading};
+use code::Flaw;
+use std::marker::Model;
 
-// What checking a block finds: how many steps and one past the last of them, or why and where the first code that fails.
+// What a block has whose codes are all good: so many steps, and one past the last of them.
 #[derive(Clone, Copy)]
-pub enum Tally {
-    Steps { count: usize, next: usize },
-    Wrong { flaw: Flaw, at: usize },
+pub struct Tally {
+    pub count: usize,
+    pub next: usize,
 }
 
-// A step that a code stands for, and the place after the code.
-#[derive(Clone, Copy)]
-struct Coded {
-    step: usize,
-    after: usize,
+// Why a block is refused, and where: the first code that fails.
+#[derive(Clone, Copy, Debug, PartialEq, Eq)]
+pub struct Wrong {
+    pub flaw: Flaw,
+    pub at: usize,
 }
 
 // A step of a block with its index there.
@@ -34,43 +36,33 @@ pub struct Indexed {
 }
 
 // Checks the codes of a block from a place on, one by one, after `count` steps that end before `from`.
-fn check_from(part: &[u8], start: usize, count: usize, from: usize) -> Tally
+fn check_from(part: &[u8], start: usize, count: usize, from: usize) -> Result<Tally, Wrong>
     requires { (start ≤ length part.now)
         × ((length part.now < 2 ^ 32) × ((count ≤ start) × (from ≤ 2 ^ 32 + start * code_values))) }
     ensures { result ≡ tally_of count from (steps_from from part.now start) }
 {
+    // Kept: how many there are is part of the answer, and a code that fails has to say why and where, which `StepsLeft` never does.
     let mut at = start;
     let mut found = count;
     let mut next = from;
     while at < part.len() {
-        let r = code::read(part, at);
-        match r {
-            Reading::Code { value, next: after } => {
-                next = next + (value as usize) + 1;
-                found += 1;
-                at = after;
-            }
-            Reading::Bad(flaw) => {
-                return Tally::Wrong { flaw, at };
-            }
-        }
+        let c = code::read(part, at).map_err(|flaw| Wrong { flaw, at })?;
+        next = next + (c.value as usize) + 1;
+        found += 1;
+        at = c.next;
     }
-    Tally::Steps { count: found, next }
+    Ok(Tally { count: found, next })
 }
 
 // Checks a block whose first step is at least `from`: many codes at once, as long as nothing is wrong and bytes are left.
-pub fn check(part: &[u8], from: usize) -> Tally
+pub fn check(part: &[u8], from: usize) -> Result<Tally, Wrong>
     requires { (from < 2 ^ 32) × (length part.now < 2 ^ 32) }
     ensures { result ≡ tally_of 0 from (steps_from from part.now 0) }
 {
     let mut at: usize = 0;
     let mut count: usize = 0;
     let mut next = from;
-    while code_stretch::REACH <= part.len() - at {
-        let t = code_stretch::pass(part, at);
-        if t.after <= at {
-            return check_from(part, at, count, next);
-        }
+    while let Some(t) = code_stretch::pass(part, at) {
         count += t.count;
         next += t.value + t.count;
         at = t.after;
@@ -78,21 +70,45 @@ pub fn check(part: &[u8], from: usize) -> Tally
     check_from(part, at, count, next)
 }
 
-// Reads the code at a place of a block that was checked, where the step is at least `next`.
-fn next_step(part: &[u8], at: usize, next: usize) -> Coded
-    requires { Sound next (steps_from next part.now at) × (at < length part.now) }
-    ensures { Turn next part.now at result.step result.after }
-{
-    let r = code::read(part, at);
-    match r {
-        Reading::Code { value, next: after } => Coded {
-            step: next + (value as usize),
-            after,
-        },
-        Reading::Bad(_) => Coded {
-            step: next,
-            after: at,
-        },
+// The steps of a block that was checked, from the code at `at` on, where the step is at least `next`.
+#[derive(Drop)]
+struct StepsLeft<'a> {
+    part: &'a [u8],
+    at: usize,
+    next: usize,
+}
+
+// A value is seen as the list of the steps that are left.
+impl<'a> Model for StepsLeft<'a> {
+    ghost Value = { List ℕ };
+
+    ghost view = { λ s. list_of (steps_from s.next s.part.now s.at) };
+
+    ghost invariant = { λ s. (s.at ≤ length s.part.now) × (Bytes s.part.now × Sound s.next (steps_from s.next s.part.now s.at)) };
+}
+
+impl<'a> StepsLeft<'a> {
+    fn new(part: &'a [u8], at: usize, next: usize) -> StepsLeft<'a>
+        requires { (at ≤ length part.now) × Sound next (steps_from next part.now at) }
+        ensures { result ≡ list_of (steps_from next part.now at) }
+    {
+        StepsLeft { part, at, next }
+    }
+}
+
+impl<'a> Iterator for StepsLeft<'a> {
+    type Item = u32;
+
+    ghost next_gives = { YieldsFirst (λ s. s) };
+
+    ghost remaining = { item_count (λ s. s) };
+
+    fn next(&mut self) -> Option<u32> {
+        let c = code::read(self.part, self.at).ok()?;
+        let step = self.next + (c.value as usize);
+        self.at = c.next;
+        self.next = step + 1;
+        Some(step as u32)
     }
 }
 
@@ -101,15 +117,11 @@ pub fn steps(part: &[u8], from: usize, out: &mut [u32], at: usize) -> usize
     requires { Sound from (steps_from from part.now 0) × (at + length (list_of (steps_from from part.now 0)) ≤ length out.old) }
     ensures { Puts out.old at (list_of (steps_from from part.now 0)) out.new result }
 {
-    let mut p: usize = 0;
-    let mut next = from;
+    // Kept: the place after the steps is the answer, so that it is counted even where `enumerate` gives each place.
     let mut k = at;
-    while p < part.len() {
-        let c = next_step(part, p, next);
-        out[k] = c.step as u32;
-        next = c.step + 1;
+    for step in StepsLeft::new(part, 0, from) {
+        out[k] = step;
         k += 1;
-        p = c.after;
     }
     k
 }
@@ -120,19 +132,8 @@ fn step_from(part: &[u8], start: usize, from: usize, k: usize) -> usize
         × (Sound from (steps_from from part.now start) × (k < length (list_of (steps_from from part.now start)))) }
     ensures { result ≡ get_or (list_of (steps_from from part.now start)) k 0 }
 {
-    let mut at = start;
-    let mut next = from;
-    let mut left = k;
-    while at < part.len() {
-        let c = next_step(part, at, next);
-        if left == 0 {
-            return c.step;
-        }
-        left -= 1;
-        next = c.step + 1;
-        at = c.after;
-    }
-    0
+    let mut left = StepsLeft::new(part, start, from);
+    left.nth(k).unwrap_or(0) as usize
 }
 
 // The step at an index of a block that was checked: many codes are passed at once, as long as the index is not among them.
@@ -143,13 +144,9 @@ pub fn step_at(part: &[u8], from: usize, k: usize) -> usize
     let mut at: usize = 0;
     let mut next = from;
     let mut left = k;
-    while code_stretch::REACH <= part.len() - at {
-        let t = code_stretch::pass(part, at);
-        if t.after <= at {
-            return step_from(part, at, next, left);
-        }
+    while let Some(t) = code_stretch::pass(part, at) {
         if left < t.count {
-            return step_from(part, at, next, left);
+            break;
         }
         left -= t.count;
         next += t.value + t.count;
@@ -165,20 +162,16 @@ fn first_from(part: &[u8], start: usize, from: usize, passed: usize, x: usize) -
     ensures { (result.index ≡ passed + below (list_of (steps_from from part.now start)) x)
         × (result.step ≡ get_or (list_of (steps_from from part.now start)) (below (list_of (steps_from from part.now start)) x) 0) }
 {
-    let mut at = start;
-    let mut next = from;
+    // Kept: where every step is below x their number is the answer, so that it is counted even where `enumerate` gives each index.
     let mut index = passed;
-    while at < part.len() {
-        let c = next_step(part, at, next);
-        if x <= c.step {
+    for step in StepsLeft::new(part, start, from) {
+        if x <= step as usize {
             return Indexed {
-                step: c.step,
+                step: step as usize,
                 index,
             };
         }
         index += 1;
-        next = c.step + 1;
-        at = c.after;
     }
     Indexed { step: 0, index }
 }
@@ -193,14 +186,10 @@ pub fn first_in(part: &[u8], from: usize, x: usize) -> Indexed
     let mut at: usize = 0;
     let mut next = from;
     let mut index: usize = 0;
-    while code_stretch::REACH <= part.len() - at {
-        let t = code_stretch::pass(part, at);
-        if t.after <= at {
-            return first_from(part, at, next, index, x);
-        }
+    while let Some(t) = code_stretch::pass(part, at) {
         let beyond = next + (t.value + t.count);
         if x < beyond {
-            return first_from(part, at, next, index, x);
+            break;
         }
         index += t.count;
         next = beyond;

@@ -25,29 +25,16 @@ struct Written {
     after: usize,
 }
 
-// The larger of two numbers.
-fn larger(x: u32, y: u32) -> u32
-    ensures { (x ≤ result) × (y ≤ result) }
-{
-    if x < y {
-        return y;
-    }
-    x
-}
-
 // A number that no gap of a rising list exceeds.
 fn largest_gap(list: &[u32], from: u32) -> u32
     requires { Rising from list.now × (beyond from list.now ≤ code_values) }
     ensures { result < one_group → Near from list.now }
 {
-    let mut i: usize = 0;
     let mut next = from;
     let mut largest: u32 = 0;
-    while i < list.len() {
-        let x = list[i];
-        largest = larger(largest, x - next);
+    for &x in list {
+        largest = largest.max(x - next);
         next = x + 1;
-        i += 1;
     }
     largest
 }
@@ -58,17 +45,12 @@ fn put_singles(list: &[u32], from: u32, out: &mut [u8], at: usize) -> usize
         × (Rising from list.now × ((beyond from list.now ≤ code_values) × (at + length (codes_for from list.now) ≤ length out.old))) }
     ensures { Puts out.old at (codes_for from list.now) out.new result }
 {
-    let mut i: usize = 0;
     let mut next = from;
-    let mut p = at;
-    while i < list.len() {
-        let x = list[i];
-        out[p] = (x - next) as u8;
+    for (i, &x) in list.iter().enumerate() {
+        out[at + i] = (x - next) as u8;
         next = x + 1;
-        p += 1;
-        i += 1;
     }
-    p
+    at + list.len()
 }
 
 // Puts the codes of a list, one by one.
@@ -76,27 +58,13 @@ fn put_each(list: &[u32], from: u32, out: &mut [u8], at: usize) -> usize
     requires { Rising from list.now × ((beyond from list.now ≤ code_values) × (at + length (codes_for from list.now) ≤ length out.old)) }
     ensures { Puts out.old at (codes_for from list.now) out.new result }
 {
-    let mut i: usize = 0;
     let mut next = from;
     let mut p = at;
-    while i < list.len() {
-        let x = list[i];
+    for &x in list {
         p = code::put(out, p, x - next);
         next = x + 1;
-        i += 1;
     }
     p
-}
-
-// The rank after a round that begins at rank i of n steps, or after all of them where they are fewer.
-fn round_end(i: usize, n: usize) -> usize
-    requires { i < n }
-    ensures { (i < result) × (result ≤ n) }
-{
-    if n - i < ROUND {
-        return n;
-    }
-    i + ROUND
 }
 
 // Puts the codes of the next steps of a list: those of a group where each is a single byte, else those of a round, one by one.
@@ -113,7 +81,7 @@ fn put_some(list: &[u32], i: usize, from: u32, out: &mut [u8], at: usize) -> Wri
             after: put_singles(&list[i..near], from, out, at),
         };
     }
-    let far = round_end(i, list.len());
+    let far = list.len().min(i + ROUND);
     Written {
         upto: far,
         after: put_each(&list[i..far], from, out, at),

@@ -9,31 +9,28 @@ use native.Mathlib.Omega.{arith}
 use borrow.Author.Tests.{lt-ltb, le-ltb}
 use lib.ListN.{length, get_or, drop, length-drop}
 use lib.Seq.{get_or-drop}
+use Rattle.std.specs.Prelude.{Result, Ok}
 use Rattle.lists.specs.Below.{below}
 use Rattle.lists.specs.Bytes.{Bytes}
 use Rattle.lists.proofs.Choice.{by_lt, pick_yes, pick_no}
 use Rattle.lists.proofs.Below.{below-le, below_under, below_reach}
 use Rattle.rules.specs.Listed.{Listed}
 use Rattle.rules.specs.Paper.{accepting}
+use Rattle.rules.specs.declared.Refusal.{Refusal}
 use Rattle.image.specs.Grammar as image
 use Rattle.image.specs.Verdict.{taken, verdict}
 use Rattle.image.proofs.Accepted.{verdict-Accepted, Accepted_taken, cut_Accepted}
-use Rattle.read.specs.declared.Checked.{Checked}
-use Rattle.read.specs.declared.Checked.TheVariants.{Accepted}
 use Rattle.read.specs.Read as read
 use Rattle.read.proofs.Decides as checks
 use Rattle.read.proofs.Answers.{answer_Yes}
-use Rattle.ask.specs.declared.Ranked.{Ranked}
-use Rattle.ask.specs.declared.Ranked.TheVariants.{Step}
 use Rattle.ask.specs.declared.First.{First}
 use Rattle.ask.specs.declared.First.TheVariants.{Found, Nothing}
-use Rattle.ask.specs.declared.Placed.{Placed}
-use Rattle.ask.specs.declared.Placed.TheVariants.{At}
 use Rattle.ask.specs.Rank as rank
 use Rattle.ask.specs.First as first
 use Rattle.ask.specs.Cursor as cursor
 use Rattle.ask.proofs.Decides.{ranked_one, first_one, placed_one}
 use Rattle.ask.proofs.Walks.{walk_list}
+use Rattle.ask.specs.declared.Cursor.{Cursor}
 use Rattle.write.specs.Written.{Written}
 use Rattle.write.proofs.Written.{written_Accepted, written_least, written_first}
 use Rattle.write.proofs.RoundTrip.{accepted_placed}
@@ -43,13 +40,13 @@ use Rattle.demands.specs.Plain.{FirstRank, Answers, Shortest}
 
 -- ---- accepted exactly when
 
-pub Accepted_exactly : {s : List ℕ} → Bytes s → (n : ℕ) → Check s (Accepted n) ↔ ImageWhere s (λ xs. length xs ≡ n)
+pub Accepted_exactly : {s : List ℕ} → Bytes s → (n : ℕ) → Check s (Ok n) ↔ ImageWhere s (λ xs. length xs ≡ n)
 Accepted_exactly {s} w n = (there, back)
   where
-    there : Check s (Accepted n) → ImageWhere s (λ xs. length xs ≡ n)
+    there : Check s (Ok n) → ImageWhere s (λ xs. length xs ≡ n)
     there c = let y = answer_Yes s c refl in (y.list, (verdict-Accepted s y.list w).0 y.is, y.count)
 
-    back : ImageWhere s (λ xs. length xs ≡ n) → Check s (Accepted n)
+    back : ImageWhere s (λ xs. length xs ≡ n) → Check s (Ok n)
     back (xs, a, e) = ap (λ (k : ℕ). accepting (k ∷ [])) (sym e) ∙ sym (ap read.check_paper (Accepted_taken a))
 
 -- ---- the first rank
@@ -84,15 +81,15 @@ module _ {s xs : List ℕ} (a : image.Accepted s xs) where
   e : verdict s ≡ taken xs
   e = Accepted_taken a
 
-  steps_of : (steps steps' : List ℕ) (r : Checked) → length xs ≤ length steps → Read (s, steps) (r, steps')
-      → (r ≡ Accepted (length xs)) × (steps' ≡ xs ++ drop (length xs) steps)
+  steps_of : (steps steps' : List ℕ) (r : Result ℕ Refusal) → length xs ≤ length steps → Read (s, steps) (r, steps')
+      → (r ≡ Ok (length xs)) × (steps' ≡ xs ++ drop (length xs) steps)
   steps_of steps steps' r h (p, q) = (
-    checks.paper_one r (Accepted (length xs)) (p ∙ ap (read.read_paper (length steps)) e ∙ pick_no _ _ _ (le-ltb (length steps) (length xs) h)),
+    checks.paper_one r (Ok (length xs)) (p ∙ ap (read.read_paper (length steps)) e ∙ pick_no _ _ _ (le-ltb (length steps) (length xs) h)),
     q ∙ ap (read.steps_after steps) e ∙ pick_no _ _ _ (le-ltb (length steps) (length xs) h),
   )
 
-  Rank_of : (k : ℕ) (r : Ranked) → k < length xs → Rank (s, k) r → r ≡ Step (get_or xs k 0)
-  Rank_of k r h p = ranked_one r (Step (get_or xs k 0)) (p ∙ ap (rank.rank_in k) e ∙ pick_yes _ _ _ (lt-ltb k (length xs) h))
+  Rank_of : (k : ℕ) (r : Result ℕ Refusal) → k < length xs → Rank (s, k) r → r ≡ Ok (get_or xs k 0)
+  Rank_of k r h p = ranked_one r (Ok (get_or xs k 0)) (p ∙ ap (rank.rank_in k) e ∙ pick_yes _ _ _ (lt-ltb k (length xs) h))
 
   first_is : (x k : ℕ) (r : First) → FirstRank xs 0 x k → FirstAt (s, x) r → first.paper_of r ≡ first.at_rank xs k
   first_is x k r f p = p ∙ ap (first.first_in x) e ∙ ap (first.at_rank xs) (b ∙ first_rank xs 0 x k f)
@@ -108,9 +105,9 @@ module _ {s xs : List ℕ} (a : image.Accepted s xs) where
   nothing_of x r f p =
       first_one r Nothing (first_is x (length xs) r f p ∙ pick_no _ _ _ (le-ltb (length xs) (length xs) (omega arith)))
 
-  skip_of : (k x j : ℕ) (r : Placed) → FirstRank xs k x j → SkipTo (k, s, x) r → r ≡ At (record { rank = j })
+  skip_of : (k x j : ℕ) (r : Result Cursor Refusal) → FirstRank xs k x j → SkipTo (k, s, x) r → r ≡ Ok (record { rank = j })
   skip_of k x j r f p =
-      placed_one r (At (record { rank = j }))
+      placed_one r (Ok (record { rank = j }))
       (p
       ∙ ap (cursor.skip_in k x) e
       ∙ pick_no _ _ _ (le-ltb (length xs) k (omega (arith, f.from, f.within)))

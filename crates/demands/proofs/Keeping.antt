@@ -5,15 +5,14 @@ use mathlib.Core.List.{List}
 use Prim.Native.Nat.{ℕ}
 use borrow.Author.Tests.{lt-ltb, le-ltb}
 use lib.ListN.{length}
+use Rattle.std.specs.Prelude.{Err}
 use Rattle.lists.proofs.Choice.{by_lt, pick_yes, pick_no}
 use Rattle.rules.specs.Refusals.{output_too_short}
 use Rattle.rules.specs.declared.Refusal.{Refusal}
 use Rattle.rules.specs.Paper.{Paper, refusing}
 use Rattle.rules.proofs.Paper.{paper_apart}
 use Rattle.image.specs.Verdict.{Verdict, taken, refused, verdict}
-use Rattle.read.specs.declared.Checked.TheVariants as checked
 use Rattle.read.specs.Read as read
-use Rattle.write.specs.declared.Counted.TheVariants as counted
 use Rattle.write.specs.Outcome.{values, Outcome, stopped, unplaced, placed, answer, work_after, out_after}
 use Rattle.write.specs.Promise as write
 use Rattle.outcome.specs.Result.{steps_after}
@@ -21,7 +20,7 @@ use Rattle.pair_operation.specs.declared.Operation.{Operation}
 use Rattle.pair.specs.Promise as pair
 use Rattle.demands.specs.Promises.{Read, Write, Pair}
 
-pub read_keeps : (s steps steps' : List ℕ) (r : Refusal) → Read (s, steps) (checked.Refused r, steps') → steps' ≡ steps
+pub read_keeps : (s steps steps' : List ℕ) (r : Refusal) → Read (s, steps) (Err r, steps') → steps' ≡ steps
 read_keeps s steps steps' r (e, q) = q ∙ by (verdict s) e
   where
     by : (v : Verdict) → refusing read.values r ≡ read.read_paper (length steps) v → read.steps_after steps v ≡ steps
@@ -30,7 +29,7 @@ read_keeps s steps steps' r (e, q) = q ∙ by (verdict s) e
         (λ h. paper_apart read.values (sym (p ∙ pick_no _ _ _ (le-ltb (length steps) (length xs) h))))
     by (refused t) p = refl
 
-pub write_keeps : (xs work out work' out' : List ℕ) (r : Refusal) → Write (xs, work, out) (counted.Refused r, work', out')
+pub write_keeps : (xs work out work' out' : List ℕ) (r : Refusal) → Write (xs, work, out) (Err r, work', out')
     → (out' ≡ out) × ((r.number ≡ output_too_short → ⊥) → work' ≡ work)
 write_keeps xs work out work' out' r p =
     let k = by (write.outcome xs (length work) (length out)) p.answers in
@@ -43,7 +42,7 @@ write_keeps xs work out work' out' r p =
     by (placed zs) e = paper_apart values (sym e)
 
 pub pair_keeps : (op : Operation) (one two steps work out steps' work' out' : List ℕ) (r : Refusal)
-    → Pair (op, one, two, steps, work, out) (counted.Refused r, steps', work', out')
+    → Pair (op, one, two, steps, work, out) (Err r, steps', work', out')
     → (out' ≡ out) × ((r.number ≡ output_too_short → ⊥) → (steps' ≡ steps) × (work' ≡ work))
 pair_keeps op one two steps work out steps' work' out' r p =
     let k = by (pair.outcome op one two (length steps) (length work) (length out)) p.answers in

@@ -1,9 +1,8 @@
 -- What the library owes: document 01's three demands, each in terms of the promises that the public functions keep.
-use Rattle.std.specs.Prelude.{◌≡◌, ◌↔◌, List, ℕ, ◌≤◌, length}
+use Rattle.std.specs.Prelude.{◌≡◌, ◌↔◌, List, ℕ, ◌≤◌, length, Ok}
 use Rattle.lists.specs.Bytes.{Bytes}
 use Rattle.lists.specs.Members.{has}
 use Rattle.image.specs.Grammar.{Accepted}
-use Rattle.read.specs.declared.Checked.TheVariants as checked
 use Rattle.pair_operation.specs.declared.Operation.{Operation}
 use Rattle.pair_operation.specs.Result.{keeps}
 use Rattle.pair.specs.Chain.{Thing, made, means, Link, Ends}
@@ -26,7 +25,7 @@ pub record EveryInput : Type 0 where
 -- returns the list.
 pub record PlainLists : Type 0 where
   -- `check` accepts the images of lists, each with its number of steps, and nothing else; an image has one list
-  pub accepted : {s : List ℕ} → Bytes s → (n : ℕ) → Check s (checked.Accepted n) ↔ ImageWhere s (λ xs. length xs ≡ n)
+  pub accepted : {s : List ℕ} → Bytes s → (n : ℕ) → Check s (Ok n) ↔ ImageWhere s (λ xs. length xs ≡ n)
   pub one_list : {s xs ys : List ℕ} → Accepted s xs → Accepted s ys → xs ≡ ys
   -- every question is answered as the list answers it
   pub answers : {s xs : List ℕ} → Accepted s xs → Answers s xs

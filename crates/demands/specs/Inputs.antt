@@ -1,5 +1,5 @@
 -- What an input leads to: one outcome, acceptance exactly where document 01's table does not refuse, and buffers that a refusal leaves alone.
-use Rattle.std.specs.Prelude.{◌≡◌, ◌↔◌, List, ℕ, ◌*◌, ◌≤◌, ◌<◌, length}
+use Rattle.std.specs.Prelude.{◌≡◌, ◌↔◌, List, ℕ, ◌*◌, ◌≤◌, ◌<◌, length, Err}
 use Rattle.lists.specs.Bytes.{Bytes}
 use Rattle.rules.specs.Limits.{most_steps}
 use Rattle.rules.specs.Sizes.{work_for}
@@ -9,12 +9,10 @@ use Rattle.rules.specs.Listed.{Listed}
 use Rattle.rules.specs.Paper.{Paper}
 use Rattle.clock.specs.Clock as clock
 use Rattle.image.specs.Grammar.{Accepted}
-use Rattle.read.specs.declared.Checked.TheVariants as checked
 use Rattle.read.specs.Read as read
 use Rattle.ask.specs.Rank as rank
 use Rattle.ask.specs.First as first
 use Rattle.ask.specs.Cursor as cursor
-use Rattle.write.specs.declared.Counted.TheVariants as counted
 use Rattle.write.specs.Written.{image_for}
 use Rattle.write.specs.Outcome.{answer}
 use Rattle.write.specs.Promise as write
@@ -77,9 +75,9 @@ pub record AcceptedExactly : Type 0 where
 
 -- "a refusal changes no buffer, except 15", which leaves the output alone
 pub record BuffersKept : Type 0 where
-  pub read : (s steps steps' : List ℕ) (r : Refusal) → Read (s, steps) (checked.Refused r, steps') → steps' ≡ steps
-  pub write : (xs work out work' out' : List ℕ) (r : Refusal) → Write (xs, work, out) (counted.Refused r, work', out')
+  pub read : (s steps steps' : List ℕ) (r : Refusal) → Read (s, steps) (Err r, steps') → steps' ≡ steps
+  pub write : (xs work out work' out' : List ℕ) (r : Refusal) → Write (xs, work, out) (Err r, work', out')
       → (out' ≡ out) × ((r.number ≡ output_too_short → ⊥) → work' ≡ work)
   pub pair : (op : Operation) (one two steps work out steps' work' out' : List ℕ) (r : Refusal)
-      → Pair (op, one, two, steps, work, out) (counted.Refused r, steps', work', out')
+      → Pair (op, one, two, steps, work, out) (Err r, steps', work', out')
       → (out' ≡ out) × ((r.number ≡ output_too_short → ⊥) → (steps' ≡ steps) × (work' ≡ work))

@@ -1,19 +1,14 @@
 -- What is answered about an image of a list, and what is written for one, in words of the plain list.
-use Rattle.std.specs.Prelude.{◌≡◌, List, ◌++◌, ℕ, ◌≤◌, ◌<◌, length, get_or, drop}
+use Rattle.std.specs.Prelude.{◌≡◌, List, ◌++◌, ℕ, ◌≤◌, ◌<◌, length, get_or, drop, Result, Ok}
 use Rattle.cut.specs.Cut.{Block, Cuts, Earlier}
 use Rattle.image.specs.Grammar.{image_of}
-use Rattle.read.specs.declared.Checked.{Checked}
-use Rattle.read.specs.declared.Checked.TheVariants.{Accepted}
 use Rattle.ask.specs.declared.Cursor.{Cursor}
-use Rattle.ask.specs.declared.Ranked.{Ranked}
-use Rattle.ask.specs.declared.Ranked.TheVariants.{Step}
 use Rattle.ask.specs.declared.First.{First}
 use Rattle.ask.specs.declared.First.TheVariants.{Found, Nothing}
-use Rattle.ask.specs.declared.Next.{Next}
-use Rattle.ask.specs.declared.Placed.{Placed}
-use Rattle.ask.specs.declared.Placed.TheVariants.{At}
 use Rattle.ask.proofs.Walks.{walk_from}
+use Rattle.ask.specs.declared.Next.{Next}
 use Rattle.demands.specs.Promises.{Read, Rank, FirstAt, Start, Move, SkipTo}
+use Rattle.rules.specs.declared.Refusal.{Refusal}
 
 -- `j` is the first rank, from `k` on, whose step is at least `x`, or the number of steps where there is none
 pub record FirstRank (xs : List ℕ) (k x j : ℕ) : Type 0 where
@@ -25,14 +20,14 @@ pub record FirstRank (xs : List ℕ) (k x j : ℕ) : Type 0 where
 -- the answers about the bytes `s` are those of the list `xs`: the steps read back into a buffer with room, the step at a rank, the first step
 -- at or after a bound with its rank or nothing, where a cursor skips to, and what a cursor gives from the start on
 pub record Answers (s xs : List ℕ) : Type 0 where
-  pub steps : (steps steps' : List ℕ) (r : Checked) → length xs ≤ length steps → Read (s, steps) (r, steps')
-      → (r ≡ Accepted (length xs)) × (steps' ≡ xs ++ drop (length xs) steps)
-  pub rank : (k : ℕ) (r : Ranked) → k < length xs → Rank (s, k) r → r ≡ Step (get_or xs k 0)
+  pub steps : (steps steps' : List ℕ) (r : Result ℕ Refusal) → length xs ≤ length steps → Read (s, steps) (r, steps')
+      → (r ≡ Ok (length xs)) × (steps' ≡ xs ++ drop (length xs) steps)
+  pub rank : (k : ℕ) (r : Result ℕ Refusal) → k < length xs → Rank (s, k) r → r ≡ Ok (get_or xs k 0)
   pub first : (x k : ℕ) (r : First) → FirstRank xs 0 x k → k < length xs → FirstAt (s, x) r
       → r ≡ Found (record { step = get_or xs k 0; rank = k })
   pub nothing : (x : ℕ) (r : First) → FirstRank xs 0 x (length xs) → FirstAt (s, x) r → r ≡ Nothing
-  pub skip : (k x j : ℕ) (r : Placed) → FirstRank xs k x j → SkipTo (k, s, x) r → r ≡ At (record { rank = j })
-  pub walk : (next : Cursor → Next) (p : Placed) (t : ℕ) → ((c : Cursor) → Move (c.rank, s) (next c)) → Start s p → length xs ≤ t
+  pub skip : (k x j : ℕ) (r : Result Cursor Refusal) → FirstRank xs k x j → SkipTo (k, s, x) r → r ≡ Ok (record { rank = j })
+  pub walk : (next : Cursor → Result Next Refusal) (p : Result Cursor Refusal) (t : ℕ) → ((c : Cursor) → Move (c.rank, s) (next c)) → Start s p → length xs ≤ t
       → walk_from next t p ≡ xs
 
 -- `b` is the shortest image that any cut of `xs` can have, and of those as short none comes before it in the tie order

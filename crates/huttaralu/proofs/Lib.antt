@@ -1,4 +1,3 @@
 -- `Decides`: each contract leaves one outcome. `Tells`: the fields lose nothing of the answer.
 pub mod Decides
 pub mod Tells
-mod Outcomes

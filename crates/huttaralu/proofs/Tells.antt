@@ -8,6 +8,7 @@ use native.Mathlib.Omega.{arith}
 use borrow.Author.Tests.{ne_eqb}
 use lib.Dec.{ltb}
 use lib.ListN.{length, replicate, length-replicate}
+use Rattle.std.specs.Prelude.{Result, Ok, Err, ⊤}
 use Rattle.lists.specs.Below.{below}
 use Rattle.lists.proofs.Choice.{either_way}
 use Rattle.rules.specs.declared.Refusal as rules
@@ -18,8 +19,6 @@ use Rattle.image.specs.Verdict.{Verdict, taken, refused, verdict}
 use Rattle.image.proofs.Named.{NamedVerdict, named_verdict}
 use Rattle.clock.specs.Clock as clock
 use Rattle.read.specs.Read as read
-use Rattle.write_list.specs.declared.Tested.{Tested}
-use Rattle.write_list.specs.declared.Tested.TheVariants as tests
 use Rattle.write_list.specs.Tests.{test_of}
 use Rattle.write_list.proofs.Tests.{NamedTest, test_named}
 use Rattle.write.specs.Written.{image_for}
@@ -30,8 +29,6 @@ use Rattle.ask.specs.First as first
 use Rattle.ask.specs.Cursor as cursor
 use Rattle.pair_operation.specs.declared.Operation.{Operation}
 use Rattle.pair_operation.specs.Result.{result_of}
-use Rattle.outcome.specs.declared.Room.{Room}
-use Rattle.outcome.specs.declared.Room.TheVariants as rooms
 use Rattle.outcome.specs.Result.{room_of, on_room, of_result}
 use Rattle.outcome.proofs.Results.{NamedRoom, room_named}
 use Rattle.pair.specs.Promise as pair
@@ -97,16 +94,16 @@ named_placing xs out = either_way NamedOutcome (ltb out (length (image_for xs)))
 named_write : (xs : List ℕ) (work out : ℕ) → NamedOutcome (write.outcome xs work out)
 named_write xs work out = by (test_of xs) (test_named xs)
   where
-    by : (t : Tested) → NamedTest t → NamedOutcome (write.on_tests t xs work out)
-    by (tests.Refused r) h = h
-    by tests.Accepted h = either_way NamedOutcome (ltb work (work_for (length xs))) (omega arith) (named_placing xs out)
+    by : (t : Result ⊤ rules.Refusal) → NamedTest t → NamedOutcome (write.on_tests t xs work out)
+    by (Err r) h = h
+    by (Ok u) h = either_way NamedOutcome (ltb work (work_for (length xs))) (omega arith) (named_placing xs out)
 
 named_result : (zs : List ℕ) (steps work out : ℕ) → NamedOutcome (of_result zs steps work out)
 named_result zs steps work out = by (room_of (length zs) steps work) (room_named (length zs) steps work)
   where
-    by : (m : Room) → NamedRoom m → NamedOutcome (on_room m zs out)
-    by (rooms.Refused r) h = h
-    by rooms.Enough h = named_placing zs out
+    by : (m : Result ⊤ rules.Refusal) → NamedRoom m → NamedOutcome (on_room m zs out)
+    by (Err r) h = h
+    by (Ok u) h = named_placing zs out
 
 named_pair : (op : Operation) (v w : Verdict) (steps work out : ℕ) → NamedVerdict v → NamedVerdict w
     → NamedOutcome (pair.on_verdicts op v w steps work out)

@@ -14,7 +14,7 @@ use answers::{Clock, Counted, Cursor, First, Moved, Ranked};
 pub extern "C" fn hutt_check(image: &[u8]) -> Counted
     ensures { result ≡ says.check image.now }
 {
-    answers::of_checked(read::check(image))
+    read::check(image).into()
 }
 
 // Reads an image back into the step buffer.
@@ -22,7 +22,7 @@ pub extern "C" fn hutt_check(image: &[u8]) -> Counted
 pub extern "C" fn hutt_read(image: &[u8], steps: &mut [u32]) -> Counted
     ensures { (result, steps.new) ≡ says.read image.now steps.old }
 {
-    answers::of_checked(read::read(image, steps))
+    read::read(image, steps).into()
 }
 
 // Writes the shortest image of a list to the front of the output.
@@ -30,7 +30,7 @@ pub extern "C" fn hutt_read(image: &[u8], steps: &mut [u32]) -> Counted
 pub extern "C" fn hutt_write(list: &[u32], work: &mut [u32], out: &mut [u8]) -> Counted
     ensures { (result, work.new, out.new) ≡ says.write list.now work.old out.old }
 {
-    answers::of_counted(write::write(list, work, out))
+    write::write(list, work, out).into()
 }
 
 // The step at a rank.
@@ -38,7 +38,7 @@ pub extern "C" fn hutt_write(list: &[u32], work: &mut [u32], out: &mut [u8]) -> 
 pub extern "C" fn hutt_rank(image: &[u8], rank: u32) -> Ranked
     ensures { result ≡ says.rank image.now rank }
 {
-    answers::of_ranked(ask::rank(image, rank))
+    ask::rank(image, rank).into()
 }
 
 // The first step at or after a bound, with its rank.
@@ -46,7 +46,7 @@ pub extern "C" fn hutt_rank(image: &[u8], rank: u32) -> Ranked
 pub extern "C" fn hutt_first_at(image: &[u8], bound: u32) -> First
     ensures { result ≡ says.first_at image.now bound }
 {
-    answers::of_first(ask::first_at(image, bound))
+    ask::first_at(image, bound).into()
 }
 
 // A cursor at rank 0.
@@ -54,7 +54,7 @@ pub extern "C" fn hutt_first_at(image: &[u8], bound: u32) -> First
 pub extern "C" fn hutt_start(image: &[u8]) -> Moved
     ensures { result ≡ says.start image.now }
 {
-    answers::of_placed(ask::start(image))
+    ask::start(image).into()
 }
 
 // The step at the cursor, and the cursor one rank on.
@@ -62,7 +62,7 @@ pub extern "C" fn hutt_start(image: &[u8]) -> Moved
 pub extern "C" fn hutt_next(cursor: Cursor, image: &[u8]) -> Moved
     ensures { result ≡ says.next cursor.rank image.now }
 {
-    answers::of_next(answers::at_rank(cursor).next(image))
+    ask::Cursor::from(cursor).next(image).into()
 }
 
 // The cursor at the first rank, not below its own, whose step is at or after a bound.
@@ -70,7 +70,7 @@ pub extern "C" fn hutt_next(cursor: Cursor, image: &[u8]) -> Moved
 pub extern "C" fn hutt_skip(cursor: Cursor, image: &[u8], bound: u32) -> Moved
     ensures { result ≡ says.skip cursor.rank image.now bound }
 {
-    answers::of_placed(answers::at_rank(cursor).skip_to(image, bound))
+    ask::Cursor::from(cursor).skip_to(image, bound).into()
 }
 
 // The steps that both images have, and their shortest image.
@@ -85,7 +85,7 @@ pub extern "C" fn hutt_both<'a>(
     ensures { (result, steps.new, work.new, out.new)
         ≡ says.pair Both first.now second.now steps.old work.old out.old }
 {
-    answers::of_counted(pair::both(first, second, steps, work, out))
+    pair::both(first, second, steps, work, out).into()
 }
 
 // The steps that one of the images has, or both, and their shortest image.
@@ -100,7 +100,7 @@ pub extern "C" fn hutt_either<'a>(
     ensures { (result, steps.new, work.new, out.new)
         ≡ says.pair Either first.now second.now steps.old work.old out.old }
 {
-    answers::of_counted(pair::either(first, second, steps, work, out))
+    pair::either(first, second, steps, work, out).into()
 }
 
 // The steps that the first image has and the second has not, and their shortest image.
@@ -115,7 +115,7 @@ pub extern "C" fn hutt_without<'a>(
     ensures { (result, steps.new, work.new, out.new)
         ≡ says.pair Without first.now second.now steps.old work.old out.old }
 {
-    answers::of_counted(pair::without(first, second, steps, work, out))
+    pair::without(first, second, steps, work, out).into()
 }
 
 // When a step is.
@@ -123,5 +123,5 @@ pub extern "C" fn hutt_without<'a>(
 pub extern "C" fn hutt_clock_of(step: u32) -> Clock
     ensures { result ≡ says.clock_of step }
 {
-    answers::of_clocked(clock::clock_of(step))
+    clock::clock_of(step).into()
 }

@@ -8,24 +8,24 @@ use native.Mathlib.Omega.{arith}
 use native.Mathlib.Numerals.{add-one}
 use lib.Dec.{ltb, leb, eqb}
 use borrow.Author.Tests.{eq-eqb, ne_eqb, eqb-true, le-ltb, lt-leb, ltb-false, leb-false}
+use Rattle.std.specs.Prelude.{Result, Ok, Err, ⊤}
 use Rattle.lists.specs.Choice.{pick}
 use Rattle.lists.proofs.Choice.{pick_yes, pick_no}
 use Rattle.rules.specs.Limits.{largest_step, most_steps}
 use Rattle.rules.specs.Refusals.{unknown_kind, bad_last, bad_upto, bad_end, refusal}
+use Rattle.rules.specs.declared.Refusal.{Refusal}
 use Rattle.image.specs.declared.Entry.{Entry}
 use Rattle.image.specs.declared.Before.{Before}
-use Rattle.image.specs.declared.Fault.{Fault}
-use Rattle.image.specs.declared.Fault.TheVariants.{Fine, At}
 use Rattle.image.specs.Entry.{entry_place, entry_at, entries_at, after_entry}
 use Rattle.image.specs.Verdict.{fault_of, on_fault, directory_of}
 use Rattle.image.proofs.Entries.{entries_here, entries_done}
 
 module _ (p : ℕ) (b : Before) (i : ℕ) where
   -- the closing test, after `i` entries
-  pub directory_closing : (b.end ≡ p → ⊥) → directory_of p b i [] ≡ At (refusal bad_end i)
+  pub directory_closing : (b.end ≡ p → ⊥) → directory_of p b i [] ≡ Err (refusal bad_end i)
   directory_closing h = pick_no _ _ _ (ne_eqb b.end p h)
 
-  pub directory_just : b.end ≡ p → directory_of p b i [] ≡ Fine
+  pub directory_just : b.end ≡ p → directory_of p b i [] ≡ Ok tt
   directory_just h = pick_yes _ _ _ (eq-eqb b.end p h)
 
   module _ (e : Entry) (es : List Entry) where
@@ -34,10 +34,10 @@ module _ (p : ℕ) (b : Before) (i : ℕ) where
         ap (λ (n : ℕ). on_fault n i (directory_of p (after_entry e) (suc i) es)) h
         ∙ ap (λ (j : ℕ). directory_of p (after_entry e) j es) (sym (add-one i))
 
-    pub directory_stop : (fault_of p b e ≡ 0 → ⊥) → directory_of p b i (e ∷ es) ≡ At (refusal (fault_of p b e) i)
+    pub directory_stop : (fault_of p b e ≡ 0 → ⊥) → directory_of p b i (e ∷ es) ≡ Err (refusal (fault_of p b e) i)
     directory_stop h = go (fault_of p b e) h
       where
-        go : (n : ℕ) → (n ≡ 0 → ⊥) → on_fault n i (directory_of p (after_entry e) (suc i) es) ≡ At (refusal n i)
+        go : (n : ℕ) → (n ≡ 0 → ⊥) → on_fault n i (directory_of p (after_entry e) (suc i) es) ≡ Err (refusal n i)
         go zero k = absurd (k refl)
         go (suc n) k = refl
 
@@ -54,11 +54,11 @@ module _ (s : List ℕ) (m p : ℕ) (b : Before) (i : ℕ) where
         ∙ directory_next p b i e (entries_at (m - (i + 1)) s (entry_place (i + 1))) (sym is ∙ z)
 
     -- and one that stops
-    pub directory_halt : (n ≡ 0 → ⊥) → directory_of p b i (entries_at (m - i) s (entry_place i)) ≡ At (refusal n i)
+    pub directory_halt : (n ≡ 0 → ⊥) → directory_of p b i (entries_at (m - i) s (entry_place i)) ≡ Err (refusal n i)
     directory_halt z =
         ap (directory_of p b i) (entries_here s m i e here h)
         ∙ directory_stop p b i e (entries_at (m - (i + 1)) s (entry_place (i + 1))) (λ q. z (is ∙ q))
-        ∙ ap (λ (k : ℕ). At (refusal k i)) (sym is)
+        ∙ ap (λ (k : ℕ). Err (refusal k i)) (sym is)
 
   pub directory_end : i ≡ m → directory_of p b i (entries_at (m - i) s (entry_place i)) ≡ directory_of p b m []
   directory_end h = ap (directory_of p b i) (entries_done s m i (omega arith)) ∙ ap (λ (j : ℕ). directory_of p b j []) h
@@ -114,20 +114,20 @@ module _ (p : ℕ) (b : Before) (e : Entry) where
 
 module _ (p : ℕ) (b : Before) (i : ℕ) where
   -- THE ENTRIES OF A FINE DIRECTORY ARE CLEAN, one by one
-  pub directory_clean : (e : Entry) (es : List Entry) → directory_of p b i (e ∷ es) ≡ Fine
-      → Clean p b e × (directory_of p (after_entry e) (i + 1) es ≡ Fine)
+  pub directory_clean : (e : Entry) (es : List Entry) → directory_of p b i (e ∷ es) ≡ Ok tt
+      → Clean p b e × (directory_of p (after_entry e) (i + 1) es ≡ Ok tt)
   directory_clean e es h =
       let t = go (fault_of p b e) (directory_of p (after_entry e) (suc i) es) h in
       (clean p b e t.0, ap (λ (j : ℕ). directory_of p (after_entry e) j es) (add-one i) ∙ t.1)
     where
-      go : (n : ℕ) (f : Fault) → on_fault n i f ≡ Fine → (n ≡ 0) × (f ≡ Fine)
+      go : (n : ℕ) (f : Result ⊤ Refusal) → on_fault n i f ≡ Ok tt → (n ≡ 0) × (f ≡ Ok tt)
       go zero f q = (refl, q)
       go (suc n) f q = let z : ◌≡◌ {A = ℕ} 0 1 = cc in absurd (omega arith)
 
   -- and the last of them ends where the payload does
-  pub directory_whole : directory_of p b i [] ≡ Fine → b.end ≡ p
+  pub directory_whole : directory_of p b i [] ≡ Ok tt → b.end ≡ p
   directory_whole h = eqb-true b.end p (go (eqb b.end p) h)
     where
-      go : (x : Bool) → pick x Fine (At (refusal bad_end i)) ≡ Fine → x ≡ true
+      go : (x : Bool) → ◌≡◌ {A = Result ⊤ Refusal} (pick x (Ok tt) (Err (refusal bad_end i))) (Ok tt) → x ≡ true
       go true q = refl
       go false q = let z : ◌≡◌ {A = ℕ} 0 1 = cc in absurd (omega arith)

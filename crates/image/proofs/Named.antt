@@ -5,17 +5,17 @@ use Prim.Native.Nat.{ℕ, zero, suc, ◌<◌, ◌+◌, ◌-◌}
 use native.Mathlib.Omega.{arith}
 use lib.Dec.{ltb, leb, eqb}
 use lib.ListN.{length, drop}
+use Rattle.std.specs.Prelude.{Result, Ok, Err, ⊤}
 use Rattle.lists.specs.Parts.{part}
 use Rattle.lists.specs.Rising.{beyond}
 use Rattle.lists.proofs.Choice.{either_way}
 use Rattle.rules.specs.Sizes.{number_size}
 use Rattle.rules.specs.Numbers.{number_at}
+use Rattle.rules.specs.declared.Refusal.{Refusal}
 use Rattle.codes.specs.Codes.{Values, all, bad, steps_from}
 use Rattle.row.specs.Row.{row_steps, row_size}
 use Rattle.image.specs.declared.Entry.{Entry}
 use Rattle.image.specs.declared.Before.{Before}
-use Rattle.image.specs.declared.Fault.{Fault}
-use Rattle.image.specs.declared.Fault.TheVariants.{Fine, At}
 use Rattle.image.specs.Entry.{entry_place, payload_place, entries_at, start, after_entry}
 use Rattle.image.specs.Block.{Found, steps, wrong, in_codes, in_row, in_part, judged, block_of}
 use Rattle.image.specs.Verdict.{Verdict, taken, refused, fault_of, on_fault, directory_of, prepend, on_block, blocks_of, on_directory, counted, verdict}
@@ -53,11 +53,11 @@ named_block b e s =
 
 -- ---- the directory
 
-abbrev pub NamedFault : Fault → Type 0
-NamedFault Fine = Unit {0}
-NamedFault (At r) = 0 < r.number
+abbrev pub NamedFault : Result ⊤ Refusal → Type 0
+NamedFault (Ok u) = Unit {0}
+NamedFault (Err r) = 0 < r.number
 
-named_fault : (n i : ℕ) (f : Fault) → NamedFault f → NamedFault (on_fault n i f)
+named_fault : (n i : ℕ) (f : Result ⊤ Refusal) → NamedFault f → NamedFault (on_fault n i f)
 named_fault zero i f h = h
 named_fault (suc n) i f h = omega arith
 
@@ -86,9 +86,9 @@ named_blocks pay b i (e ∷ es) =
     let s = part pay b.end e.end in
     named_on_block (block_of b e s) i (blocks_of pay (after_entry e) (suc i) es) (named_block b e s) (named_blocks pay (after_entry e) (suc i) es)
 
-named_on_directory : (f : Fault) (v : Verdict) → NamedFault f → NamedVerdict v → NamedVerdict (on_directory f v)
-named_on_directory Fine v n h = h
-named_on_directory (At r) v n h = n
+named_on_directory : (f : Result ⊤ Refusal) (v : Verdict) → NamedFault f → NamedVerdict v → NamedVerdict (on_directory f v)
+named_on_directory (Ok u) v n h = h
+named_on_directory (Err r) v n h = n
 
 named_counted : (s : List ℕ) (m p : ℕ) → NamedVerdict (counted s m p)
 named_counted s m p =

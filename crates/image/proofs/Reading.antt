@@ -5,6 +5,7 @@ use mathlib.Core.List.{List, [], ◌∷◌}
 use Prim.Native.Nat.{ℕ, suc, ◌+◌, ◌-◌, ◌≤◌, ◌<◌}
 use native.Mathlib.Omega.{arith}
 use lib.ListN.{length, drop, drop_of_length-le}
+use Rattle.std.specs.Prelude.{Ok}
 use Rattle.lists.specs.Rising.{past}
 use Rattle.lists.specs.Parts.{part}
 use Rattle.lists.proofs.Parts.{length_part, part-drop, part_run, drop_run}
@@ -15,7 +16,6 @@ use Rattle.cut.proofs.Blocks.{number-le}
 use Rattle.cut.proofs.Cuts.{Cuts-le}
 use Rattle.image.specs.declared.Entry.{Entry}
 use Rattle.image.specs.declared.Before.{Before}
-use Rattle.image.specs.declared.Fault.TheVariants.{Fine}
 use Rattle.image.specs.Entry.{entry_place, payload_place, entries_at, start, after_entry}
 use Rattle.image.specs.Block.{Found, steps, block_of}
 use Rattle.image.specs.Grammar.{part_of, payload_of, entry_of, entries_of, image_of}
@@ -54,7 +54,7 @@ module _ (xs : List ℕ) (l : Listed xs) where
   -- ---- all of them
 
   pub read_directory : (p i e n : ℕ) (bs : List Block) → Cuts i (length xs) bs → e + length (payload_of xs i bs) ≡ p
-      → directory_of p (before_at xs i e) n (entries_of xs i e bs) ≡ Fine
+      → directory_of p (before_at xs i e) n (entries_of xs i e bs) ≡ Ok tt
   read_directory p i e n [] c h = directory_just p (before_at xs i e) n (omega arith)
   read_directory p i e n (b ∷ bs) c h =
       let k : b.upto ≤ length xs = Cuts-le b.upto (length xs) bs c.1 in

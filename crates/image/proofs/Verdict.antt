@@ -9,16 +9,13 @@ use native.Mathlib.Omega.{arith}
 use borrow.Author.Tests.{lt-ltb, le-ltb}
 use lib.Dec.{ltb}
 use lib.ListN.{length, drop, length-drop}
+use Rattle.std.specs.Prelude.{Result, Ok, Err, ⊤}
 use Rattle.lists.specs.Choice.{pick}
 use Rattle.lists.proofs.Choice.{by_lt}
 use Rattle.rules.specs.Sizes.{number_size}
 use Rattle.rules.specs.Numbers.{number_at}
 use Rattle.rules.specs.Refusals.{too_few_bytes, bytes_left_over, refusal}
 use Rattle.rules.specs.declared.Refusal.{Refusal}
-use Rattle.image.specs.declared.Fault.{Fault}
-use Rattle.image.specs.declared.Fault.TheVariants.{Fine, At}
-use Rattle.image.specs.declared.Opening.{Opening}
-use Rattle.image.specs.declared.Opening.TheVariants.{Opened, Refused}
 use Rattle.image.specs.Entry.{entry_place, payload_place, entries_at, start}
 use Rattle.image.specs.Verdict.{Verdict, taken, refused, directory_of, blocks_of, on_directory, verdict, on_entries, opening_for, opening_of, on_opening}
 use Rattle.image.specs.Taken.{entries_in, payload_in}
@@ -50,25 +47,25 @@ verdict_opening s =
     over : Refusal
     over = refusal bytes_left_over 0
 
-    by : (x y z w : Bool) (f : Fault)
+    by : (x y z w : Bool) (f : Result ⊤ Refusal)
         → pick x (refused few) (pick y (refused few) (pick z (refused few) (pick w (refused over) (on_directory f v))))
-        ≡ on_opening (pick x (Refused few) (pick y (Refused few) (pick z (Refused few) (pick w (Refused over) (on_entries m f))))) v
+        ≡ on_opening (pick x (Err few) (pick y (Err few) (pick z (Err few) (pick w (Err over) (on_entries m f))))) v
     by true y z w f = refl
     by false true z w f = refl
     by false false true w f = refl
     by false false false true f = refl
-    by false false false false Fine = refl
-    by false false false false (At r) = refl
+    by false false false false (Ok u) = refl
+    by false false false false (Err r) = refl
 
 module _ (s : List ℕ) where
   -- too few bytes for the count of blocks
-  pub short : length s < number_size → opening_of s ≡ Refused (refusal too_few_bytes 0)
+  pub short : length s < number_size → opening_of s ≡ Err (refusal too_few_bytes 0)
   unfolding opening_of
   short h = rw (lt-ltb (length s) number_size h)
 
   module _ (m : ℕ) (em : m ≡ number_at s 0) where
     -- too few for the entries and the count of payload bytes
-    pub short_m : number_size ≤ length s → length s < payload_place m → opening_of s ≡ Refused (refusal too_few_bytes 0)
+    pub short_m : number_size ≤ length s → length s < payload_place m → opening_of s ≡ Err (refusal too_few_bytes 0)
     unfolding opening_of
     short_m h k = rw (le-ltb (length s) number_size h, ← em, lt-ltb (length s) (payload_place m) k)
 
@@ -78,11 +75,11 @@ module _ (s : List ℕ) where
       known h = rw (le-ltb (length s) number_size (omega arith), ← em, le-ltb (length s) (payload_place m) h, ← ep)
 
       -- too few for the payload
-      pub short_p : payload_place m ≤ length s → length s < payload_place m + p → opening_of s ≡ Refused (refusal too_few_bytes 0)
+      pub short_p : payload_place m ≤ length s → length s < payload_place m + p → opening_of s ≡ Err (refusal too_few_bytes 0)
       short_p h k = known h ∙ rw (lt-ltb (length s) (payload_place m + p) k)
 
       -- bytes after it
-      pub long : payload_place m + p < length s → opening_of s ≡ Refused (refusal bytes_left_over 0)
+      pub long : payload_place m + p < length s → opening_of s ≡ Err (refusal bytes_left_over 0)
       long h =
           known (omega arith)
           ∙ rw (le-ltb (length s) (payload_place m + p) (omega arith), lt-ltb (payload_place m + p) (length s) h)
@@ -101,19 +98,19 @@ module _ (s : List ℕ) where
 pub record Unsealed (s : List ℕ) (m : ℕ) : Type 0 where
   pub is : m ≡ number_at s 0
   pub size : length s ≡ payload_place m + number_at s (entry_place m)
-  pub fine : directory_of (number_at s (entry_place m)) start 0 (entries_at m s (entry_place 0)) ≡ Fine
+  pub fine : directory_of (number_at s (entry_place m)) start 0 (entries_at m s (entry_place 0)) ≡ Ok tt
 
-opened_refused : {A : Type 0} {m : ℕ} {r : Refusal} → Refused r ≡ Opened m → A
+opened_refused : {A : Type 0} {m : ℕ} {r : Refusal} → ◌≡◌ {A = Result ℕ Refusal} (Err r) (Ok m) → A
 opened_refused q = let z : ◌≡◌ {A = ℕ} 0 1 = cc in absurd (omega arith)
 
-opened_eq : {k m : ℕ} → Opened k ≡ Opened m → k ≡ m
-opened_eq q = ap (λ (o : Opening). blocks_in o) q
+opened_eq : {k m : ℕ} → ◌≡◌ {A = Result ℕ Refusal} (Ok k) (Ok m) → k ≡ m
+opened_eq q = ap (λ (o : Result ℕ Refusal). blocks_in o) q
   where
-    blocks_in : Opening → ℕ
-    blocks_in (Opened m) = m
-    blocks_in (Refused r) = 0
+    blocks_in : Result ℕ Refusal → ℕ
+    blocks_in (Ok m) = m
+    blocks_in (Err r) = 0
 
-module _ (s : List ℕ) (m : ℕ) (e : opening_of s ≡ Opened m) where
+module _ (s : List ℕ) (m : ℕ) (e : opening_of s ≡ Ok m) where
   pub unseal : Unsealed s m
   unseal = by_lt (length s) number_size (λ h. opened_refused (sym (short s h) ∙ e)) after_count
     where
@@ -123,11 +120,11 @@ module _ (s : List ℕ) (m : ℕ) (e : opening_of s ≡ Opened m) where
       p : ℕ
       p = number_at s (entry_place k)
 
-      tested : length s ≡ payload_place k + p → (f : Fault) → directory_of p start 0 (entries_at k s (entry_place 0)) ≡ f → Unsealed s m
-      tested z Fine q =
+      tested : length s ≡ payload_place k + p → (f : Result ⊤ Refusal) → directory_of p start 0 (entries_at k s (entry_place 0)) ≡ f → Unsealed s m
+      tested z (Ok u) q =
           let here : k ≡ m = opened_eq (sym (just s k refl p refl z ∙ ap (on_entries k) q) ∙ e) in
           subst (Unsealed s) here (record { is = refl; size = z; fine = q })
-      tested z (At r) q = opened_refused (sym (just s k refl p refl z ∙ ap (on_entries k) q) ∙ e)
+      tested z (Err r) q = opened_refused (sym (just s k refl p refl z ∙ ap (on_entries k) q) ∙ e)
 
       after_payload : payload_place k ≤ length s → payload_place k + p ≤ length s → Unsealed s m
       after_payload h g =
@@ -144,15 +141,15 @@ module _ (s : List ℕ) (m : ℕ) (e : opening_of s ≡ Opened m) where
 -- ---- what the opening says of the verdict
 
 module _ (s : List ℕ) where
-  pub verdict_opened : {m : ℕ} → opening_of s ≡ Opened m → verdict s ≡ blocks_of (payload_in s) start 0 (entries_in s)
-  verdict_opened q = verdict_opening s ∙ ap (λ (o : Opening). on_opening o (blocks_of (payload_in s) start 0 (entries_in s))) q
+  pub verdict_opened : {m : ℕ} → opening_of s ≡ Ok m → verdict s ≡ blocks_of (payload_in s) start 0 (entries_in s)
+  verdict_opened q = verdict_opening s ∙ ap (λ (o : Result ℕ Refusal). on_opening o (blocks_of (payload_in s) start 0 (entries_in s))) q
 
-  pub verdict_refused : {r : Refusal} → opening_of s ≡ Refused r → verdict s ≡ refused r
-  verdict_refused q = verdict_opening s ∙ ap (λ (o : Opening). on_opening o (blocks_of (payload_in s) start 0 (entries_in s))) q
+  pub verdict_refused : {r : Refusal} → opening_of s ≡ Err r → verdict s ≡ refused r
+  verdict_refused q = verdict_opening s ∙ ap (λ (o : Result ℕ Refusal). on_opening o (blocks_of (payload_in s) start 0 (entries_in s))) q
 
   -- where counts and directory are as they should be, the blocks decide
   pub just_fine : (m : ℕ) → m ≡ number_at s 0 → (p : ℕ) → p ≡ number_at s (entry_place m) → length s ≡ payload_place m + p
-      → directory_of p start 0 (entries_at m s (entry_place 0)) ≡ Fine
+      → directory_of p start 0 (entries_at m s (entry_place 0)) ≡ Ok tt
       → verdict s ≡ blocks_of (drop (payload_place m) s) start 0 (entries_at m s (entry_place 0))
   just_fine m em p ep size f =
       verdict_opened (just s m em p ep size ∙ ap (on_entries m) f)
@@ -165,10 +162,10 @@ pub record Peeled (s xs : List ℕ) : Type 0 where
   pub is_m : m ≡ number_at s 0
   pub is_p : p ≡ number_at s (entry_place m)
   pub size : length s ≡ payload_place m + p
-  pub fine : directory_of p start 0 (entries_at m s (entry_place 0)) ≡ Fine
+  pub fine : directory_of p start 0 (entries_at m s (entry_place 0)) ≡ Ok tt
   pub blocks : blocks_of (drop (payload_place m) s) start 0 (entries_at m s (entry_place 0)) ≡ taken xs
 
-peel_opened : (s xs : List ℕ) (m : ℕ) → opening_of s ≡ Opened m → verdict s ≡ taken xs → Peeled s xs
+peel_opened : (s xs : List ℕ) (m : ℕ) → opening_of s ≡ Ok m → verdict s ≡ taken xs → Peeled s xs
 peel_opened s xs m q e =
     let u = unseal s m q in
     let v : verdict s ≡ blocks_of (payload_in s) start 0 (entries_in s) = verdict_opened s q in
@@ -185,6 +182,6 @@ peel_opened s xs m q e =
 pub peel : (s xs : List ℕ) → verdict s ≡ taken xs → Peeled s xs
 peel s xs e = by (opening_of s) refl
   where
-    by : (o : Opening) → opening_of s ≡ o → Peeled s xs
-    by (Opened m) q = peel_opened s xs m q e
-    by (Refused r) q = refused_taken (sym (verdict_refused s q) ∙ e)
+    by : (o : Result ℕ Refusal) → opening_of s ≡ o → Peeled s xs
+    by (Ok m) q = peel_opened s xs m q e
+    by (Err r) q = refused_taken (sym (verdict_refused s q) ∙ e)

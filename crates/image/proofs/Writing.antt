@@ -5,6 +5,7 @@ use mathlib.Core.List.{List, [], ◌∷◌, ◌++◌}
 use Prim.Native.Nat.{ℕ, suc, ◌+◌, ◌-◌, ◌≤◌, ◌<◌}
 use native.Mathlib.Omega.{arith}
 use lib.ListN.{length, get_or, drop, length-drop, drop_of_length-le}
+use Rattle.std.specs.Prelude.{Ok}
 use Rattle.lists.specs.Rising.{Rising, beyond, past}
 use Rattle.lists.specs.Parts.{part}
 use Rattle.lists.specs.Bytes.{Bytes}
@@ -19,7 +20,6 @@ use Rattle.cut.specs.Cut.{number, kind_of, Block, block, Cuts}
 use Rattle.cut.proofs.Blocks.{number-kind_of}
 use Rattle.image.specs.declared.Entry.{Entry}
 use Rattle.image.specs.declared.Before.{Before}
-use Rattle.image.specs.declared.Fault.TheVariants.{Fine}
 use Rattle.image.specs.Entry.{entry_place, payload_place, directory_bytes, entries_at, start, after_entry}
 use Rattle.image.specs.Grammar.{bytes_of, part_of, payload_of, entry_of, entries_of, image_of, Accepted}
 use Rattle.image.specs.Verdict.{taken, blocks_of, directory_of, verdict}
@@ -136,7 +136,7 @@ module _ (pay xs : List ℕ) where
 
   module _ (w : Bytes pay) where
     write_blocks : (i e n : ℕ) (es : List Entry) → i ≤ length xs → past xs i ≤ largest_step + 1 → i ≤ most_steps
-        → directory_of (length pay) (before_at xs i e) n es ≡ Fine → blocks_of pay (before_at xs i e) n es ≡ taken (drop i xs)
+        → directory_of (length pay) (before_at xs i e) n es ≡ Ok tt → blocks_of pay (before_at xs i e) n es ≡ taken (drop i xs)
         → Cutting pay xs i e es
     write_blocks i e n [] h small few d t =
         cutting_none i e h (sym (taken_eq t)) (directory_whole (length pay) (before_at xs i e) n d) small few

@@ -1,5 +1,5 @@
 -- The verdict on any bytes: document 01's table, 1 to 10, in its order and with its places.
-use Rattle.std.specs.Prelude.{List, [], ◌∷◌, ◌++◌, ℕ, zero, suc, ◌+◌, ltb, leb, eqb, length, drop}
+use Rattle.std.specs.Prelude.{List, [], ◌∷◌, ◌++◌, ℕ, zero, suc, ◌+◌, ltb, leb, eqb, length, drop, Result, Ok, Err, ⊤}
 use Rattle.lists.specs.Choice.{pick}
 use Rattle.lists.specs.Parts.{part}
 use Rattle.rules.specs.Limits.{largest_step, most_steps}
@@ -9,10 +9,6 @@ use Rattle.rules.specs.Refusals.{too_few_bytes, bytes_left_over, unknown_kind, b
 use Rattle.rules.specs.declared.Refusal.{Refusal}
 use Rattle.image.specs.declared.Entry.{Entry}
 use Rattle.image.specs.declared.Before.{Before}
-use Rattle.image.specs.declared.Fault.{Fault}
-use Rattle.image.specs.declared.Fault.TheVariants.{Fine, At}
-use Rattle.image.specs.declared.Opening.{Opening}
-use Rattle.image.specs.declared.Opening.TheVariants.{Opened, Refused}
 use Rattle.image.specs.Entry.{entry_place, payload_place, entries_at, start, after_entry}
 use Rattle.image.specs.Block.{Found, steps, wrong, block_of}
 
@@ -32,13 +28,13 @@ fault_of p b e =
     (pick (leb e.end b.end) bad_end
     (pick (ltb p e.end) bad_end 0))))))
 
-abbrev pub on_fault : ℕ → ℕ → Fault → Fault
+abbrev pub on_fault : ℕ → ℕ → Result ⊤ Refusal → Result ⊤ Refusal
 on_fault zero i f = f
-on_fault (suc n) i f = At (refusal (suc n) i)
+on_fault (suc n) i f = Err (refusal (suc n) i)
 
 -- the entries in turn, the first with number `i`; then the final end has to be the payload's length
-abbrev pub directory_of : ℕ → Before → ℕ → List Entry → Fault
-directory_of p b i [] = pick (eqb b.end p) Fine (At (refusal bad_end i))
+abbrev pub directory_of : ℕ → Before → ℕ → List Entry → Result ⊤ Refusal
+directory_of p b i [] = pick (eqb b.end p) (Ok tt) (Err (refusal bad_end i))
 directory_of p b i (e ∷ es) = on_fault (fault_of p b e) i (directory_of p (after_entry e) (suc i) es)
 
 abbrev pub prepend : List ℕ → Verdict → Verdict
@@ -54,9 +50,9 @@ abbrev pub blocks_of : List ℕ → Before → ℕ → List Entry → Verdict
 blocks_of pay b i [] = taken []
 blocks_of pay b i (e ∷ es) = on_block (block_of b e (part pay b.end e.end)) i (blocks_of pay (after_entry e) (suc i) es)
 
-abbrev pub on_directory : Fault → Verdict → Verdict
-on_directory Fine v = v
-on_directory (At r) v = refused r
+abbrev pub on_directory : Result ⊤ Refusal → Verdict → Verdict
+on_directory (Ok u) v = v
+on_directory (Err r) v = refused r
 
 -- the directory, then the blocks
 abbrev pub inside : List Entry → List ℕ → Verdict
@@ -78,24 +74,24 @@ verdict s =
 
 -- ---- the first half of it, 1 to 6, for who does not look at every block
 
-abbrev pub on_entries : ℕ → Fault → Opening
-on_entries m Fine = Opened m
-on_entries m (At r) = Refused r
+abbrev pub on_entries : ℕ → Result ⊤ Refusal → Result ℕ Refusal
+on_entries m (Ok u) = Ok m
+on_entries m (Err r) = Err r
 
-abbrev pub opening_for : List ℕ → ℕ → ℕ → Opening
+abbrev pub opening_for : List ℕ → ℕ → ℕ → Result ℕ Refusal
 opening_for s m p =
-    pick (ltb (length s) (payload_place m + p)) (Refused (refusal too_few_bytes 0))
-    (pick (ltb (payload_place m + p) (length s)) (Refused (refusal bytes_left_over 0))
+    pick (ltb (length s) (payload_place m + p)) (Err (refusal too_few_bytes 0))
+    (pick (ltb (payload_place m + p) (length s)) (Err (refusal bytes_left_over 0))
     (on_entries m (directory_of (length (drop (payload_place m) s)) start 0 (entries_at m s (entry_place 0)))))
 
 -- the number of blocks, or the first refusal of the counts and the directory
-unfoldable pub opening_of : List ℕ → Opening
+unfoldable pub opening_of : List ℕ → Result ℕ Refusal
 opening_of s =
-    pick (ltb (length s) number_size) (Refused (refusal too_few_bytes 0))
-    (pick (ltb (length s) (payload_place (number_at s 0))) (Refused (refusal too_few_bytes 0))
+    pick (ltb (length s) number_size) (Err (refusal too_few_bytes 0))
+    (pick (ltb (length s) (payload_place (number_at s 0))) (Err (refusal too_few_bytes 0))
     (opening_for s (number_at s 0) (number_at s (entry_place (number_at s 0)))))
 
 -- what follows from it for the verdict, where the blocks by themselves have the verdict `v`
-abbrev pub on_opening : Opening → Verdict → Verdict
-on_opening (Opened m) v = v
-on_opening (Refused r) v = refused r
+abbrev pub on_opening : Result ℕ Refusal → Verdict → Verdict
+on_opening (Ok m) v = v
+on_opening (Err r) v = refused r

@@ -7,8 +7,6 @@ ghost use Rattle.std.specs.Prelude.{◌≡◌, ◌+◌, ◌^◌, ◌≤◌, ◌<
 ghost use Rattle.rules.specs.Sizes.{entry_size};
 ghost use Rattle.image.specs.Entry.{entry_at, start, after_entry, Narrow};
 
-use rules::Refusal;
-
 // One record of the directory.
 #[derive(Clone, Copy)]
 pub struct Entry {
@@ -26,27 +24,13 @@ pub struct Before {
     pub end: usize,
 }
 
-// What checking the directory finds.
-#[derive(Clone, Copy)]
-pub enum Fault {
-    Fine,
-    At(Refusal),
-}
-
-// What the counts and the directory of an image say: how many blocks there are, or the first refusal, 1 to 6.
-#[derive(Clone, Copy)]
-pub enum Opening {
-    Opened { blocks: usize },
-    Refused(Refusal),
-}
-
 // The entry at a place.
 pub fn entry_at(s: &[u8], at: usize) -> Entry
     requires { at + entry_size ≤ length s.now }
     ensures { (result ≡ entry_at s.now at) × Narrow result }
 {
     Entry {
-        kind: rules::wide(s[at]),
+        kind: usize::from(s[at]),
         last: rules::number_at(s, at + 1),
         upto: rules::number_at(s, at + 5),
         end: rules::number_at(s, at + 9),

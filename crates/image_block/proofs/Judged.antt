@@ -10,9 +10,10 @@ use lib.ListN.{length}
 use Rattle.lists.specs.Choice.{pick}
 use Rattle.lists.specs.Rising.{beyond}
 use Rattle.rules.specs.Refusals.{bad_code, wrong_count, wrong_last, bad_row}
-use Rattle.code.specs.declared.Flaw.{Flaw}
-use Rattle.codes.specs.declared.Tally.TheVariants.{Steps, Wrong}
-use Rattle.codes.specs.Codes.{Values, all, bad, steps_from, tally_of}
+use Rattle.std.specs.Prelude.{Ok, Err}
+use Rattle.codes.specs.declared.Tally.{Tally}
+use Rattle.codes.specs.declared.Wrong.{Wrong}
+use Rattle.codes.specs.Codes.{Values, all, bad, steps_from, tally, tally_of}
 use Rattle.row.specs.Row.{row_steps, row_size}
 use Rattle.row.proofs.Row.{length_row_moved, beyond_row_moved}
 use Rattle.image.specs.declared.Entry.{Entry}
@@ -40,22 +41,23 @@ module _ (b : Before) (e : Entry) where
     -- ---- codes
 
     module _ (h : e.kind ≡ 0) where
-      pub number_codes : {count next : ℕ} → tally_of 0 b.next (steps_from b.next part 0) ≡ Steps count next
+      pub number_codes : {count next : ℕ} → tally_of 0 b.next (steps_from b.next part 0) ≡ Ok (tally count next)
           → number_of (block_of b e part) ≡ judged_number b e count next
       number_codes {count} {next} t = ap number_of (block_codes b e part h) ∙ by (steps_from b.next part 0) t
         where
-          by : (v : Values) → tally_of 0 b.next v ≡ Steps count next → number_of (judged b e (in_codes v)) ≡ judged_number b e count next
+          by : (v : Values) → tally_of 0 b.next v ≡ Ok (tally count next) → number_of (judged b e (in_codes v)) ≡ judged_number b e count next
           by (all xs) q =
-              let p : 0 + length xs ≡ count = cc in
-              let r : beyond b.next xs ≡ next = cc in
+              let t : tally (0 + length xs) (beyond b.next xs) ≡ tally count next = cc in
+              let p : 0 + length xs ≡ count = ap (λ (t : Tally). t.count) t in
+              let r : beyond b.next xs ≡ next = ap (λ (t : Tally). t.next) t in
               let n : length xs ≡ count = omega arith in
               number_judged xs ∙ rw (n, r)
           by (bad w n) q = let z : ◌≡◌ {A = ℕ} 0 1 = cc in absurd (omega arith)
 
-      pub number_bad : {w : Flaw} {n : ℕ} → tally_of 0 b.next (steps_from b.next part 0) ≡ Wrong w n → number_of (block_of b e part) ≡ bad_code
-      number_bad {w} {n} t = ap number_of (block_codes b e part h) ∙ by (steps_from b.next part 0) t
+      pub number_bad : {w : Wrong} → tally_of 0 b.next (steps_from b.next part 0) ≡ Err w → number_of (block_of b e part) ≡ bad_code
+      number_bad {w} t = ap number_of (block_codes b e part h) ∙ by (steps_from b.next part 0) t
         where
-          by : (v : Values) → tally_of 0 b.next v ≡ Wrong w n → number_of (judged b e (in_codes v)) ≡ bad_code
+          by : (v : Values) → tally_of 0 b.next v ≡ Err w → number_of (judged b e (in_codes v)) ≡ bad_code
           by (all xs) q = let z : ◌≡◌ {A = ℕ} 0 1 = cc in absurd (omega arith)
           by (bad w n) q = number_wrong bad_code
 

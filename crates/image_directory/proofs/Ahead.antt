@@ -6,9 +6,9 @@ use mathlib.Core.List.{List}
 use Prim.Native.Nat.{ℕ, ◌+◌, ◌-◌, ◌≤◌, ◌<◌}
 use native.Mathlib.Omega.{arith}
 use lib.ListN.{length}
+use Rattle.std.specs.Prelude.{Ok}
 use Rattle.image.specs.declared.Entry.{Entry}
 use Rattle.image.specs.declared.Before.{Before}
-use Rattle.image.specs.declared.Fault.TheVariants.{Fine}
 use Rattle.image.specs.Entry.{entry_place, entry_at, entries_at, start, after_entry}
 use Rattle.image.specs.Verdict.{Verdict, taken, directory_of, blocks_of}
 use Rattle.image.proofs.Entries.{entries_here}
@@ -24,7 +24,7 @@ left s m i = entries_at (m - i) s (entry_place i)
 -- `i` of `m` entries were passed, `b` stands before the next, and from there on the directory is fine
 pub record Ahead (s pay : List ℕ) (m : ℕ) (b : Before) (i : ℕ) : Type 0 where
   pub within : i ≤ m
-  pub fine : directory_of (length pay) b i (left s m i) ≡ Fine
+  pub fine : directory_of (length pay) b i (left s m i) ≡ Ok tt
 
 pub left_start : (s : List ℕ) (m : ℕ) → entries_at m s (entry_place 0) ≡ left s m 0
 left_start s m = let z : m ≡ m - 0 = omega arith in ap (λ (k : ℕ). entries_at k s (entry_place 0)) z
@@ -34,7 +34,7 @@ Ahead-start s pay m d =
     record { within = omega arith; fine = ap (directory_of (length pay) start 0) (sym (left_start s m)) ∙ d.fine }
 
 module _ {s pay : List ℕ} {m : ℕ} {b : Before} {i : ℕ} (a : Ahead s pay m b i) (e : Entry) (here : e ≡ entry_at s (entry_place i)) (h : i < m) where
-  both : Clean (length pay) b e × (directory_of (length pay) (after_entry e) (i + 1) (left s m (i + 1)) ≡ Fine)
+  both : Clean (length pay) b e × (directory_of (length pay) (after_entry e) (i + 1) (left s m (i + 1)) ≡ Ok tt)
   both =
       directory_clean (length pay) b i e (left s m (i + 1))
       (sym (ap (directory_of (length pay) b i) (entries_here s m i e here h)) ∙ a.fine)

@@ -12,7 +12,7 @@ use Rattle.image.specs.declared.Before.{Before}
 use Rattle.image.specs.Entry.{entry_place, entry_at, entries_at, start, after_entry}
 use Rattle.image.proofs.Entries.{entries_here, entries_done}
 use Rattle.image_directory.specs.declared.Question.{Question}
-use Rattle.image_directory.specs.declared.Spot.TheVariants.{Block, Nowhere}
+use Rattle.std.proofs.Common.{None, Some}
 use Rattle.image_directory.specs.Search.{passes, spot_of, spot_in}
 
 -- `i` of `m` entries do not have the answer, and `b` stands before the next
@@ -28,7 +28,7 @@ Seeking-start q s m e =
 module _ {q : Question} {s : List ℕ} {m : ℕ} {b : Before} {i : ℕ} (g : Seeking q s m b i) where
   -- the next entry was read
   module _ {e : Entry} (here : e ≡ entry_at s (entry_place i)) (h : i < m) where
-    pub seeking_here : passes q e ≡ true → spot_in q s ≡ Block b e
+    pub seeking_here : passes q e ≡ true → spot_in q s ≡ Some (record { before = b; entry = e })
     seeking_here t = g.is ∙ ap (spot_of q b) (entries_here s m i e here h) ∙ pick_yes _ _ _ t
 
     pub seeking_past : {a : Before} → a ≡ after_entry e → passes q e ≡ false → Seeking q s m a (i + 1)
@@ -42,5 +42,5 @@ module _ {q : Question} {s : List ℕ} {m : ℕ} {b : Before} {i : ℕ} (g : See
               ∙ ap (λ (y : Before). spot_of q y (entries_at (m - (i + 1)) s (entry_place (i + 1)))) (sym is-after);
         }
 
-  pub seeking_end : m ≤ i → spot_in q s ≡ Nowhere
+  pub seeking_end : m ≤ i → spot_in q s ≡ None
   seeking_end h = g.is ∙ ap (spot_of q b) (entries_done s m i h)

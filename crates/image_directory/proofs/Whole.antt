@@ -4,17 +4,22 @@ use mathlib.Core.Path.{◌≡◌, refl, ap, ◌∙◌, subst}
 use mathlib.Core.List.{List}
 use Prim.Native.Nat.{ℕ, ◌+◌, ◌≤◌}
 use native.Mathlib.Omega.{arith}
-use lib.ListN.{length, drop}
+use lib.ListN.{length, drop, get_or}
+use mir.Syntax.{w8}
+use mir.Val.{Fits}
+use Rattle.std.specs.Prelude.{Ok}
 use Rattle.lists.specs.Bytes.{Bytes}
 use Rattle.rules.specs.Numbers.{number_at}
 use Rattle.rules.proofs.Numbers.{number_lt}
-use Rattle.image.specs.declared.Fault.TheVariants.{Fine}
-use Rattle.image.specs.declared.Opening.TheVariants.{Opened}
 use Rattle.image.specs.Entry.{entry_place, payload_place, entries_at, start}
 use Rattle.image.specs.Verdict.{taken, directory_of, blocks_of, opening_of}
 use Rattle.image.proofs.Verdict.{length_payload, unseal, peel}
 use Rattle.image.specs.Taken.{steps_of, Taken, entries_in, payload_in}
 use Rattle.image_directory.specs.Sound.{Sound}
+
+-- a slice of bytes holds bytes
+pub slice_Bytes : (s : List ℕ) → ((i : ℕ) → Fits w8 (get_or s i 0)) → Bytes s
+slice_Bytes s fits i = omega (arith, fits i)
 
 -- the image is as long as its counts say, and its directory has no fault
 pub record Open (s : List ℕ) : Type 0 where
@@ -22,7 +27,7 @@ pub record Open (s : List ℕ) : Type 0 where
   pub sound : Sound s (payload_in s) (number_at s 0)
 
 opens : (s : List ℕ) (m p : ℕ) → Bytes s → m ≡ number_at s 0 → p ≡ number_at s (entry_place m) → length s ≡ payload_place m + p
-    → directory_of p start 0 (entries_at m s (entry_place 0)) ≡ Fine → Open s
+    → directory_of p start 0 (entries_at m s (entry_place 0)) ≡ Ok tt → Open s
 opens s m p w im ip size fine =
     let n : length (drop (payload_place m) s) ≡ p = length_payload s m p size in
     let all : length s ≡ payload_place m + length (drop (payload_place m) s) = omega arith in
@@ -40,7 +45,7 @@ opens s m p w im ip size fine =
     }
 
 -- what opens
-pub opened_Open : {s : List ℕ} {m : ℕ} → Bytes s → opening_of s ≡ Opened m → Open s
+pub opened_Open : {s : List ℕ} {m : ℕ} → Bytes s → opening_of s ≡ Ok m → Open s
 opened_Open {s} {m} w q = let u = unseal s m q in opens s m (number_at s (entry_place m)) w u.is refl u.size u.fine
 
 -- what is accepted opens, and its blocks are taken

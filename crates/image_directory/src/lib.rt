@@ -6,28 +6,40 @@
 ghost use Rattle.std.specs.Prelude.{◌≡◌, ◌+◌, ◌^◌, ◌≤◌, ◌<◌, length};
 ghost use Rattle.rules.specs.Sizes.{entry_size};
 ghost use Rattle.rules.specs.Numbers.{number_at};
-ghost use Rattle.rules.specs.Refusals.{refusal};
 ghost use Rattle.image.specs.Entry.{entry_place, payload_place, entry_at, entries_at, start, before_at, Narrow};
 ghost use Rattle.image.specs.Verdict.{fault_of, directory_of, opening_of};
 ghost use Rattle.image.specs.Taken.{payload_in};
 ghost use Rattle.image_directory.specs.Search.{passes, spot_in};
 ghost use Rattle.image_directory.specs.Part.{part_in, Within};
 
-use image::{Before, Entry, Fault, Opening};
+use image::{Before, Entry};
 use rules::Refusal;
 
 // What is asked of the directory: where the step of a rank is, or where the first step at or after a bound is.
+// Kept: a closure in its place would need a test of the specification beside it, for `spot_in` to tell what it finds.
 #[derive(Clone, Copy)]
 pub enum Question {
     Rank(usize),
     Bound(usize),
 }
 
-// Where the directory says that an answer is: a block with what stands before it, or none.
+impl Question {
+    // Whether the answer is in the block of an entry, if it is in none before it.
+    fn answers(self, e: Entry) -> bool
+        ensures { result ≡ passes self e }
+    {
+        match self {
+            Question::Rank(k) => k < e.upto,
+            Question::Bound(x) => x <= e.last,
+        }
+    }
+}
+
+// Where the directory says that an answer is: the entry of a block, and what stands before it.
 #[derive(Clone, Copy)]
-pub enum Spot {
-    Block { before: Before, entry: Entry },
-    Nowhere,
+pub struct Spot {
+    pub before: Before,
+    pub entry: Entry,
 }
 
 // The number of an entry's first refusal, or 0: p is the payload's length.
@@ -78,60 +90,48 @@ pub fn before(image: &[u8], i: usize) -> Before
 }
 
 // The entries in turn, and the closing test.
-fn entries(image: &[u8], m: usize, p: usize) -> Fault
+fn entries(image: &[u8], m: usize, p: usize) -> Result<(), Refusal>
     requires { (m < 2 ^ 32) × (entry_place m ≤ length image.now) }
     ensures { result ≡ directory_of p start 0 (entries_at m image.now (entry_place 0)) }
 {
     let mut b = image::start();
-    let mut i: usize = 0;
-    while i < m {
+    for i in 0..m {
         let e = entry(image, i);
         let n = fault_of(p, b, e);
         if n != 0 {
-            return Fault::At(rules::refuse(n, i as u32));
+            return Err(rules::refuse(n, i as u32));
         }
         b = image::after(e);
-        i += 1;
     }
     if b.end == p {
-        return Fault::Fine;
+        return Ok(());
     }
-    Fault::At(rules::refuse(rules::BAD_END, m as u32))
-}
-
-// A refusal of the two counts.
-fn refused(number: u32) -> Opening
-    ensures { result ≡ Opening.Refused (refusal number 0) }
-{
-    Opening::Refused(rules::refuse(number, 0))
+    Err(rules::refuse(rules::BAD_END, m as u32))
 }
 
 // Tests the counts and the directory: the number of blocks, or the first refusal.
-pub fn check(image: &[u8]) -> Opening
+pub fn check(image: &[u8]) -> Result<usize, Refusal>
     ensures { result ≡ opening_of image.now }
 {
     let n = image.len();
     if n < rules::NUMBER_SIZE {
-        return refused(rules::TOO_FEW_BYTES);
+        return Err(rules::refuse(rules::TOO_FEW_BYTES, 0));
     }
     let m = rules::number_at(image, 0);
     let count = rules::NUMBER_SIZE + rules::ENTRY_SIZE * m;
     let from = count + rules::NUMBER_SIZE;
     if n < from {
-        return refused(rules::TOO_FEW_BYTES);
+        return Err(rules::refuse(rules::TOO_FEW_BYTES, 0));
     }
     let p = rules::number_at(image, count);
     if n < from + p {
-        return refused(rules::TOO_FEW_BYTES);
+        return Err(rules::refuse(rules::TOO_FEW_BYTES, 0));
     }
     if from + p < n {
-        return refused(rules::BYTES_LEFT_OVER);
+        return Err(rules::refuse(rules::BYTES_LEFT_OVER, 0));
     }
-    let f = entries(image, m, p);
-    match f {
-        Fault::At(r) => Opening::Refused(r),
-        Fault::Fine => Opening::Opened { blocks: m },
-    }
+    entries(image, m, p)?;
+    Ok(m)
 }
 
 // The payload of an image.
@@ -145,45 +145,31 @@ pub fn payload(image: &[u8]) -> &[u8]
 }
 
 // A block's part of the payload.
-pub fn part<'a>(image: &'a [u8], b: Before, e: Entry) -> &'a [u8]
+pub fn part(image: &[u8], b: Before, e: Entry) -> &[u8]
     requires { Within image.now b e }
     ensures { result.now ≡ part_in image.now b e }
 {
     let pay = payload(image);
-    let start = b.end;
-    let end = e.end;
-    &pay[start..end]
-}
-
-// Whether the answer to a question is in the block of an entry, if it is in none before it.
-fn answers(q: Question, e: Entry) -> bool
-    ensures { result ≡ passes q e }
-{
-    match q {
-        Question::Rank(k) => k < e.upto,
-        Question::Bound(x) => x <= e.last,
-    }
+    &pay[b.end..e.end]
 }
 
 // The first block that has the answer to a question.
 #[tactic(auto, using(crate::proofs::Seeking::seeking_here, crate::proofs::Seeking::seeking_past))]
-pub fn find(image: &[u8], q: Question) -> Spot
+pub fn find(image: &[u8], q: Question) -> Option<Spot>
     requires { entry_place (number_at image.now 0) ≤ length image.now }
     ensures { result ≡ spot_in q image.now }
 {
     let m = rules::number_at(image, 0);
     let mut b = image::start();
-    let mut i: usize = 0;
-    while i < m {
+    for i in 0..m {
         let e = entry(image, i);
-        if answers(q, e) {
-            return Spot::Block {
+        if q.answers(e) {
+            return Some(Spot {
                 before: b,
                 entry: e,
-            };
+            });
         }
         b = image::after(e);
-        i += 1;
     }
-    Spot::Nowhere
+    None
 }

@@ -12,8 +12,8 @@ use Rattle.lists.proofs.Parts.{drop-part, length_part}
 use Rattle.lists.proofs.Bytes.{Bytes-part}
 use Rattle.rules.specs.Limits.{no_step}
 use Rattle.code.specs.declared.Flaw.{Flaw}
-use Rattle.code.specs.declared.Reading.TheVariants.{Code, Bad}
-use Rattle.code.specs.Code.{read_at}
+use Rattle.std.specs.Prelude.{Ok, Err}
+use Rattle.code.specs.Code.{reading, read_at}
 use Rattle.code.specs.Code.Read.{Read}
 use Rattle.code.proofs.Laws.{read_sound}
 use Rattle.codes.specs.Codes.{Values, all, bad, on_top, values_from, as_steps, steps_from, list_of}
@@ -43,7 +43,7 @@ pub record Opening (o : ℕ) (pay : List ℕ) (at end x n : ℕ) : Type 0 where
   pub within : at + n ≤ end
 
 module _ (o : ℕ) (pay : List ℕ) (at end : ℕ) (good : Whole o pay at end) where
-  pub opening : (x n : ℕ) → Bytes pay → at ≤ end → end ≤ length pay → read_at (part pay at end) 0 ≡ Code x n → Opening o pay at end x n
+  pub opening : (x n : ℕ) → Bytes pay → at ≤ end → end ≤ length pay → read_at (part pay at end) 0 ≡ Ok (reading x n) → Opening o pay at end x n
   opening x n b h k e = by (steps_from (o + x + 1) (part pay at end) n) refl
     where
       w : Bytes (part pay at end)
@@ -69,7 +69,7 @@ module _ (o : ℕ) (pay : List ℕ) (at end : ℕ) (good : Whole o pay at end) w
       by (bad f i) q = bad_all (sym (on_top_lem (bad f i) q) ∙ good)
 
   -- no code of them fails
-  pub opening_bad : (f : Flaw) → at < end → end ≤ length pay → read_at (part pay at end) 0 ≡ Bad f → ⊥
+  pub opening_bad : (f : Flaw) → at < end → end ≤ length pay → read_at (part pay at end) 0 ≡ Err f → ⊥
   opening_bad f h k e =
       bad_all (sym (steps_bad o (part pay at end) 0 f (omega (arith, length_part pay at end (omega arith) k)) e) ∙ good)
 
@@ -88,7 +88,7 @@ module _ {o : ℕ} {pay : List ℕ} {at end x n : ℕ} (f : Opening o pay at end
 
 -- what is left of a block of codes
 module _ (pay : List ℕ) (p : Rest) (r : Readable pay p) (k : p.kind ≡ 0) (h : p.at < p.end) where
-  pub code_met : (x n : ℕ) → Bytes pay → read_at (part pay p.at p.end) 0 ≡ Code x n
+  pub code_met : (x n : ℕ) → Bytes pay → read_at (part pay p.at p.end) 0 ≡ Ok (reading x n)
       → Met pay p (coded_walk (p.next + x) (p.at + n) p.end p.block) × (p.at + n ≤ p.end)
   code_met x n b e =
       let f = opening p.next pay p.at p.end (r.codes k) x n b (omega arith) r.within e in
@@ -102,5 +102,5 @@ module _ (pay : List ℕ) (p : Rest) (r : Readable pay p) (k : p.kind ≡ 0) (h 
         f.within,
       )
 
-  pub code_good : (f : Flaw) → read_at (part pay p.at p.end) 0 ≡ Bad f → ⊥
+  pub code_good : (f : Flaw) → read_at (part pay p.at p.end) 0 ≡ Err f → ⊥
   code_good f e = opening_bad p.next pay p.at p.end (r.codes k) f h r.within e

@@ -13,8 +13,8 @@ use Rattle.lists.specs.Parts.{part}
 use Rattle.lists.specs.Bytes.{Bytes}
 use Rattle.lists.proofs.Choice.{pick_yes, pick_no, by_lt}
 use Rattle.rules.specs.Limits.{no_step}
-use Rattle.code.specs.declared.Reading.TheVariants.{Code}
-use Rattle.code.specs.Code.{read_at}
+use Rattle.std.specs.Prelude.{Ok}
+use Rattle.code.specs.Code.{reading, read_at}
 use Rattle.codes.proofs.Codes.{Rising_steps}
 use Rattle.row.specs.Row.{bits_from}
 use Rattle.row.specs.Words.{word_bits}
@@ -22,7 +22,7 @@ use Rattle.row.proofs.Row.{Rising_row}
 use Rattle.row.proofs.Bits.{bits_zero, beyond_bits, Rising_bits_on, bits_lowest, lowest_below}
 use Rattle.image.specs.Entry.{before_at}
 use Rattle.image_walk.specs.declared.Walk.{Walk}
-use Rattle.image_walk.specs.declared.Move.TheVariants.{To, Out}
+use Rattle.std.specs.Prelude.{Some, None}
 use Rattle.image_walk.specs.Blocks.{later}
 use Rattle.image_walk.specs.Walk.{codes_in, row_in, others, here, Open, Placed, Stands, Follows}
 use Rattle.image_walk.specs.Turns.{met_walk, coded_walk, left, Left, Turned}
@@ -34,10 +34,10 @@ use Rattle.image_walk.proofs.Standing.{met_Placed, coded_Open}
 -- ---- within the loaded word
 
 module _ (w : Walk) where
-  pub move_Out : others w.bits ≡ 0 → bit_move w ≡ Out
-  move_Out h = pick_yes (eqb (others w.bits) 0) _ _ (eq-eqb (others w.bits) 0 h)
+  pub move_none : others w.bits ≡ 0 → bit_move w ≡ None
+  move_none h = pick_yes (eqb (others w.bits) 0) _ _ (eq-eqb (others w.bits) 0 h)
 
-  pub move_to : (others w.bits ≡ 0 → ⊥) → bit_move w ≡ To (met_walk w.low (others w.bits) w.at w.end w.block)
+  pub move_to : (others w.bits ≡ 0 → ⊥) → bit_move w ≡ Some (met_walk w.low (others w.bits) w.at w.end w.block)
   move_to h = pick_no (eqb (others w.bits) 0) _ _ (ne_eqb (others w.bits) 0 h)
 
 module _ (pay : List ℕ) (w : Walk) (p : Placed pay w) (b : w.bits ≡ 0 → ⊥) (fits : w.bits < 2 ^ word_bits) where
@@ -81,7 +81,7 @@ module _ (pay : List ℕ) (w : Walk) (p : Placed pay w) (b : w.bits ≡ 0 → �
   bit_Moves = by (ℕ_discrete (others w.bits) 0)
     where
       by : Dec (others w.bits ≡ 0) → Moves pay w (bit_move w)
-      by (yes z) = subst (Moves pay w) (sym (move_Out w z)) (word_out z)
+      by (yes z) = subst (Moves pay w) (sym (move_none w z)) (word_out z)
       by (no z) = subst (Moves pay w) (sym (move_to w z)) (word_next z)
 
 -- ---- by a code
@@ -95,7 +95,7 @@ module _ (pay : List ℕ) (w : Walk) (p : Placed pay w) (b : w.bits ≡ 0) where
     pub among : Open pay w
     among = p.on (by_lt w.step no_step (λ g. g) (λ g. absurd (omega (arith, (p.off g).at))))
 
-    pub code_next : (gap n : ℕ) → Bytes pay → read_at (part pay w.at w.end) 0 ≡ Code gap n
+    pub code_next : (gap n : ℕ) → Bytes pay → read_at (part pay w.at w.end) 0 ≡ Ok (reading gap n)
         → Slid pay w (coded_walk (w.step + 1 + gap) (w.at + n) w.end w.block)
     code_next gap n y r =
         let o = among in

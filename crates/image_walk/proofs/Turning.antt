@@ -5,13 +5,13 @@ use mathlib.Core.List.{List, ◌∷◌, ◌++◌}
 use Prim.Native.Nat.{ℕ, ◌-◌, ◌≤◌, ◌<◌}
 use native.Mathlib.Omega.{arith}
 use lib.ListN.{length, drop}
+use Rattle.std.specs.Prelude.{Ok}
 use Rattle.lists.specs.Rising.{beyond}
 use Rattle.lists.specs.Bytes.{Bytes}
 use Rattle.rules.specs.Numbers.{number_at}
 use Rattle.rules.proofs.Numbers.{number_lt}
 use Rattle.rules.specs.Limits.{no_step}
 use Rattle.codes.specs.Codes.{all, list_of}
-use Rattle.image.specs.declared.Fault.TheVariants.{Fine}
 use Rattle.image.specs.Entry.{entry_place, payload_place, entries_at, start, before_at}
 use Rattle.image.specs.Verdict.{taken, directory_of, blocks_of}
 use Rattle.image.proofs.Verdict.{length_payload, peel}
@@ -83,7 +83,7 @@ module _ (s pay : List ℕ) (w : Bytes s) (t : Taken s) (e : pay ≡ payload_in 
           size = omega (arith, x.size, x.is_m);
           few = omega (arith, x.is_p, number_lt s (entry_place x.m) w (omega (arith, x.size)));
           end = refl;
-          fine = subst (λ (n : ℕ). directory_of (length pay) start 0 (entries_at n s (entry_place 0)) ≡ Fine) z (rw p x.fine);
+          fine = subst (λ (n : ℕ). directory_of (length pay) start 0 (entries_at n s (entry_place 0)) ≡ Ok tt) z (rw p x.fine);
           takes = v ∙ ap taken (sym (ap list_in v));
         },
         ap list_in v,

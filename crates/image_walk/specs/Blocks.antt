@@ -1,8 +1,7 @@
 -- What a walk goes along: an accepted image, its payload, and its blocks by their numbers.
-use Rattle.std.specs.Prelude.{◌≡◌, List, ℕ, ◌-◌, ◌^◌, ◌≤◌, ◌<◌, length}
+use Rattle.std.specs.Prelude.{◌≡◌, List, ℕ, ◌-◌, ◌^◌, ◌≤◌, ◌<◌, length, Ok}
 use Rattle.rules.specs.Numbers.{number_at}
 use Rattle.image.specs.declared.Entry.{Entry}
-use Rattle.image.specs.declared.Fault.TheVariants.{Fine}
 use Rattle.image.specs.Entry.{entry_place, entries_at, before_at}
 use Rattle.image.specs.Verdict.{Verdict, taken, directory_of, blocks_of}
 use Rattle.image.specs.Taken.{list_in}
@@ -23,5 +22,5 @@ pub record Blocks (s pay : List ℕ) (i e : ℕ) : Type 0 where
   pub size : entry_place (number_at s 0) ≤ length s
   pub few : length pay < 2 ^ 32
   pub end : e ≡ (before_at s i).end
-  pub fine : directory_of (length pay) (before_at s i) i (entries_from s i) ≡ Fine
+  pub fine : directory_of (length pay) (before_at s i) i (entries_from s i) ≡ Ok tt
   pub takes : blocks_from s pay i ≡ taken (later s pay i)

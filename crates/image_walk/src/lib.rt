@@ -1,26 +1,50 @@
 // A walk over the steps of an accepted image, in order, by value and without a buffer. Each block is read in its own part of the payload: a
 // block of codes code by code, a bit row by words of which only the ones are met.
 //
-// A walk goes with the image and its payload, which is lent beside it so that it is cut off once. A move within the loaded word, or to a code of
+// A walk goes with the accepted image that it goes over. A move within the loaded word, or to a code of
 // one byte, is what most moves are: `next` is small, so that it is made part of its caller's loop and the walk stays in registers there. All
 // other moves go by `turned`, which is handed what is left as a value of its own.
 
 #![tactic(auto)]
 
 ghost use Rattle.std.specs.Prelude.{◌≡◌, ◌^◌, ◌<◌};
+ghost use Rattle.lists.specs.Bytes.{Bytes};
 ghost use Rattle.rules.specs.Limits.{no_step};
 ghost use Rattle.image.specs.Taken.{steps_of, Taken, payload_in};
 ghost use Rattle.image_walk.specs.Walk.{ahead, Placed, Stands, Follows};
 ghost use Rattle.image_walk.specs.Turns.{met_walk, coded_walk, Readable, Left, Turned};
 ghost use Rattle.image_walk.specs.Inside.Moves.{rest_of, Current, Met, bit_move, Moves};
 
-use code::Reading;
 use row::{WORD_BITS, WORD_BYTES};
+
+// An accepted image with its payload, which is cut off once.
+#[derive(Clone, Copy)]
+pub struct Accepted<'a> {
+    pub image: &'a [u8],
+    pub payload: &'a [u8],
+    ghost bytes: { Bytes image.now },
+    ghost taken: { Taken image.now },
+    ghost cut: { payload.now ≡ payload_in image.now },
+}
+
+impl<'a> Accepted<'a> {
+    // An accepted image, to be walked over.
+    pub fn new(image: &'a [u8]) -> Accepted<'a>
+        requires { Taken image.now }
+        ensures { result.image.now ≡ image.now }
+    {
+        Accepted {
+            image,
+            payload: image_directory::payload(image),
+        }
+    }
+}
 
 // Where a walk stands.
 #[derive(Clone, Copy)]
 pub struct Walk {
     // The step, or one past the largest where none is left.
+    // Kept: no Option, since that number is above every step, so that who merges needs no test for the end.
     pub step: usize,
     // In a bit row: the step that the loaded word's lowest bit stands for, and the ones of the word from the walk's step on. In codes: the
     // step, and 0.
@@ -34,6 +58,7 @@ pub struct Walk {
 
 // What a walk has left when its word, or its code, is passed: the least step that may come in a code or in another block, the step that the
 // row's next bit stands for, 0 where the open block has codes, and the places of the walk.
+// Kept: the kind is a number, since it comes as one, from the directory or as the bits of a word, and is only compared with 0.
 #[derive(Clone, Copy)]
 pub struct Rest {
     pub next: usize,
@@ -42,13 +67,6 @@ pub struct Rest {
     pub at: usize,
     pub end: usize,
     pub block: usize,
-}
-
-// A move to another walk, or out of what is loaded.
-#[derive(Clone, Copy)]
-enum Move {
-    To(Walk),
-    Out,
 }
 
 // The walk at the lowest one of a word.
@@ -87,10 +105,9 @@ fn in_codes(p: Rest, payload: &[u8]) -> Walk
 {
     let at = p.at;
     let end = p.end;
-    let r = code::read(&payload[at..end], 0);
-    match r {
-        Reading::Code { value, next } => coded(p.next + (value as usize), at + next, end, p.block),
-        Reading::Bad(_) => coded(p.next, at, end, p.block),
+    match code::read(&payload[at..end], 0) {
+        Ok(c) => coded(p.next + (c.value as usize), at + c.next, end, p.block),
+        Err(_) => coded(p.next, at, end, p.block),
     }
 }
 
@@ -123,17 +140,17 @@ fn inside(p: Rest, payload: &[u8]) -> Walk
 }
 
 // What is left, or the next block where nothing is left of the open one and there is another.
-fn current<'a>(p: Rest, image: &'a [u8], payload: &'a [u8]) -> Rest
-    requires { Left image.now payload.now p }
-    ensures { Current image.now payload.now p result }
+fn current<'a>(p: Rest, source: Accepted<'a>) -> Rest
+    requires { Left source.image.now source.payload.now p }
+    ensures { Current source.entry.image.now source.entry.payload.now p result }
 {
     if p.at < p.end {
         return p;
     }
-    if p.end == payload.len() {
+    if p.end == source.payload.len() {
         return p;
     }
-    let e = image_directory::entry(image, p.block);
+    let e = image_directory::entry(source.image, p.block);
     Rest {
         next: p.next,
         from: p.next,
@@ -145,22 +162,21 @@ fn current<'a>(p: Rest, image: &'a [u8], payload: &'a [u8]) -> Rest
 }
 
 // The walk at the next step of what is left, or past the last step.
-pub fn turned<'a>(p: Rest, image: &'a [u8], payload: &'a [u8]) -> Walk
-    requires { Left image.now payload.now p }
-    ensures { Turned image.now payload.now p result }
+pub fn turned<'a>(p: Rest, source: Accepted<'a>) -> Walk
+    requires { Left source.image.now source.payload.now p }
+    ensures { Turned source.entry.image.now source.entry.payload.now p result }
 {
-    let q = current(p, image, payload);
+    let q = current(p, source);
     if q.at < q.end {
-        return inside(q, payload);
+        return inside(q, source.payload);
     }
     coded(rules::no_step(), q.at, q.end, q.block)
 }
 
 // The walk at the first step of an accepted image.
-pub fn first<'a>(image: &'a [u8], payload: &'a [u8]) -> Walk
-    requires { Taken image.now × (payload.now ≡ payload_in image.now) }
-    ensures { Stands image.now payload.now result
-        × (ahead image.now payload.now result ≡ steps_of image.now) }
+pub fn first<'a>(source: Accepted<'a>) -> Walk
+    ensures { Stands source.entry.image.now source.entry.payload.now result
+        × (ahead source.entry.image.now source.entry.payload.now result ≡ steps_of source.entry.image.now) }
 {
     turned(
         Rest {
@@ -171,41 +187,39 @@ pub fn first<'a>(image: &'a [u8], payload: &'a [u8]) -> Walk
             end: 0,
             block: 0,
         },
-        image,
-        payload,
+        source,
     )
 }
 
-// Moves to the next one of the loaded word.
-fn next_bit(w: Walk) -> Move
+// Moves to the next one of the loaded word: none where no one is left.
+fn next_bit(w: Walk) -> Option<Walk>
     requires { (0 < w.bits) × (w.low < 2 ^ 32) }
     ensures { result ≡ bit_move w }
 {
     let bits = w.bits & (w.bits - 1);
     if bits == 0 {
-        return Move::Out;
+        return None;
     }
-    Move::To(met(w.low, bits, w.at, w.end, w.block))
+    Some(met(w.low, bits, w.at, w.end, w.block))
 }
 
-// Moves on by a code of one byte.
-fn next_code(w: Walk, payload: &[u8]) -> Move
+// Moves on by a code of one byte: none where that is not what follows.
+fn next_code(w: Walk, payload: &[u8]) -> Option<Walk>
     requires { Placed payload.now w × ((w.bits ≡ 0) × (w.step < no_step)) }
     ensures { Moves payload.now w result }
 {
     let at = w.at;
     let end = w.end;
     if at < end {
-        let gap = code::single(&payload[at..end]);
-        if gap < code::CODE_VALUES {
-            return Move::To(coded(w.step + 1 + gap, at + 1, end, w.block));
+        if let Some(gap) = code::single(&payload[at..end]) {
+            return Some(coded(w.step + 1 + gap, at + 1, end, w.block));
         }
     }
-    Move::Out
+    None
 }
 
-// Moves on within what is loaded.
-fn moved(w: Walk, payload: &[u8]) -> Move
+// Moves on within what is loaded: none where that leads out of it.
+fn moved(w: Walk, payload: &[u8]) -> Option<Walk>
     requires { Placed payload.now w × (w.step < no_step) }
     ensures { Moves payload.now w result }
 {
@@ -233,15 +247,15 @@ fn rest_of(w: Walk) -> Rest
 impl Walk {
     // The walk at the next step. The turned walk has a name of its own, or the compiler would keep the walk in memory on the way that most
     // moves go.
-    pub fn next<'a>(self, image: &'a [u8], payload: &'a [u8]) -> Walk
-        requires { Stands image.now payload.now self × (self.step < no_step) }
-        ensures { Follows image.now payload.now self result }
+    pub fn next<'a>(self, source: Accepted<'a>) -> Walk
+        requires { Stands source.image.now source.payload.now self × (self.step < no_step) }
+        ensures { Follows source.entry.image.now source.entry.payload.now self result }
     {
-        let m = moved(self, payload);
+        let m = moved(self, source.payload);
         match m {
-            Move::To(v) => v,
-            Move::Out => {
-                let r = turned(rest_of(self), image, payload);
+            Some(v) => v,
+            None => {
+                let r = turned(rest_of(self), source);
                 r
             }
         }

@@ -7,20 +7,20 @@ use native.Mathlib.Omega.{arith}
 use lib.Dec.{ltb}
 use lib.ListN.{length, take, drop, length-take, length-drop, length-append, take-append-drop}
 use lib.Seq.{take_at}
+use Rattle.std.specs.Prelude.{Result, Err}
 use Rattle.lists.proofs.Choice.{either_way}
 use Rattle.rules.specs.declared.Refusal.{Refusal}
 use Rattle.rules.specs.Listed.{Listed}
-use Rattle.write.specs.declared.Counted.{Counted}
-use Rattle.write.specs.declared.Counted.TheVariants.{Refused}
 use Rattle.write.specs.Written.{image_for}
 use Rattle.write.specs.Outcome.{paper_of, Outcome, stopped, answer, work_after, out_after}
 use Rattle.write.specs.Promise.{outcome, Promise}
 use Rattle.write.proofs.Outcomes.{outcome_roomy}
+use Rattle.write.specs.declared.Counted.{Counted}
 use Rattle.outcome.specs.Result.{Roomy, of_result, steps_after, Leaves}
 use Rattle.outcome.proofs.Results.{result_roomy}
 
 -- A REFUSAL THAT CHANGES NOTHING
-pub Leaves_stopped : {o : Outcome} {steps work out : List ℕ} (r : Refusal) {a : Counted} → o ≡ stopped r → a ≡ Refused r
+pub Leaves_stopped : {o : Outcome} {steps work out : List ℕ} (r : Refusal) {a : Result Counted Refusal} → o ≡ stopped r → a ≡ Err r
     → Leaves o steps work out a steps work out
 Leaves_stopped {steps = steps} {work} {out} r e q =
     record {
@@ -39,7 +39,7 @@ after_Roomy zs steps work out r =
 
 -- A RESULT THAT WAS WRITTEN WHERE IT STANDS, IN FRONT OF THE STEP BUFFER
 pub Leaves_front : {steps work out : List ℕ} (n : ℕ) → Roomy n (length steps) (length work) → Listed (take n steps)
-    → {a : Counted} {work' out' : List ℕ} → Promise (take n steps) work out a work' out'
+    → {a : Result Counted Refusal} {work' out' : List ℕ} → Promise (take n steps) work out a work' out'
     → Leaves (of_result (take n steps) (length steps) (length work) (length out)) steps work out a steps work' out'
 Leaves_front {steps} {work} {out} n r l w =
     let zs : List ℕ = take n steps in
@@ -71,7 +71,7 @@ module _ (steps work out zs : List ℕ) (n : ℕ) (c : n ≡ length zs) {steps' 
     pub stored_Roomy : Roomy n (length steps') (length work)
     stored_Roomy = rw length_stored r
 
-    pub Leaves_stored : {a : Counted} {work' out' : List ℕ}
+    pub Leaves_stored : {a : Result Counted Refusal} {work' out' : List ℕ}
         → Leaves (of_result (take n steps') (length steps') (length work) (length out)) steps' work out a steps' work' out'
         → Leaves (of_result zs (length steps) (length work) (length out)) steps work out a steps' work' out'
     Leaves_stored w =

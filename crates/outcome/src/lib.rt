@@ -10,32 +10,30 @@ ghost use Rattle.outcome.specs.Result.{room_of, of_result, Roomy, Leaves};
 use rules::Refusal;
 use write::Counted;
 
-// Whether there is room for a result: in the step buffer and in the work area; or the refusal that comes first.
-#[derive(Clone, Copy)]
-pub enum Room {
-    Enough,
-    Refused(Refusal),
-}
-
-// Whether a step buffer and a work area of these lengths have room for a result of `n` steps.
-pub fn room_for(n: usize, steps: usize, work: usize) -> Room
+// Whether a step buffer and a work area of these lengths have room for a result of `n` steps, or the refusal that comes first.
+pub fn room_for(n: usize, steps: usize, work: usize) -> Result<(), Refusal>
     ensures { result ≡ room_of n steps work }
 {
     if n > rules::most_steps() {
-        return Room::Refused(rules::refuse(rules::TOO_MANY_STEPS, 0));
+        return Err(rules::refuse(rules::TOO_MANY_STEPS, 0));
     }
     if steps < n {
-        return Room::Refused(rules::refuse(rules::STEPS_TOO_SHORT, n as u32));
+        return Err(rules::refuse(rules::STEPS_TOO_SHORT, n as u32));
     }
     let need = rules::work_for(n);
     if work < need {
-        return Room::Refused(rules::refuse(rules::WORK_TOO_SHORT, need as u32));
+        return Err(rules::refuse(rules::WORK_TOO_SHORT, need as u32));
     }
-    Room::Enough
+    Ok(())
 }
 
 // Writes the `n` steps in front of a step buffer, a result for which there is room, to the front of the output.
-pub fn write_front(steps: &[u32], n: usize, work: &mut [u32], out: &mut [u8]) -> Counted
+pub fn write_front(
+    steps: &[u32],
+    n: usize,
+    work: &mut [u32],
+    out: &mut [u8],
+) -> Result<Counted, Refusal>
     requires { Listed (take n steps.now) × Roomy n (length steps.now) (length work.old) }
     ensures { Leaves (of_result (take n steps.now) (length steps.now) (length work.old) (length out.old))
         steps.now work.old out.old result steps.now work.new out.new }

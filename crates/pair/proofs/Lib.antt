@@ -4,3 +4,4 @@ pub mod Links
 pub mod Chains
 pub mod Algebra
 mod Holding
+mod Sides

@@ -5,13 +5,13 @@ use mathlib.Core.List.{List}
 use Prim.Native.Nat.{ℕ}
 use lib.ListN.{length, get_or, take}
 use lib.Seq.{take_at}
+use Rattle.std.specs.Prelude.{Ok}
 use Rattle.lists.specs.Bytes.{Bytes}
 use Rattle.rules.specs.declared.Refusal.{Refusal}
 use Rattle.rules.specs.Paper.{Paper}
 use Rattle.rules.proofs.Paper.{paper_apart, paper_values}
 use Rattle.image.specs.Verdict.{Verdict, taken, refused, verdict}
 use Rattle.image.proofs.Accepted.{verdict-Accepted}
-use Rattle.write.specs.declared.Counted.TheVariants.{Accepted}
 use Rattle.write.specs.Written.{Written, image_for}
 use Rattle.write.specs.Outcome.{values, paper_of, Outcome, stopped, placed, answer, out_after}
 use Rattle.write.proofs.Written.{Written_some}
@@ -23,12 +23,12 @@ use Rattle.pair.specs.Promise.{on_verdicts, outcome, Promise}
 use Rattle.pair.specs.Chain.{Link}
 
 -- a refusal does not accept
-not_stopped : {X : Type 0} {n k : ℕ} {o : Outcome} {r : Refusal} → paper_of (Accepted n k) ≡ answer o → o ≡ stopped r → X
+not_stopped : {X : Type 0} {n k : ℕ} {o : Outcome} {r : Refusal} → paper_of (Ok (record { steps = n; bytes = k })) ≡ answer o → o ≡ stopped r → X
 not_stopped a e = paper_apart values (a ∙ ap answer e)
 
 -- WHERE AN OPERATION ACCEPTS, WHAT IT LEAVES IS A LINK
 module _ (op : Operation) (first second : List ℕ) {steps work out : List ℕ} {n k : ℕ} {steps' work' out' : List ℕ} (u : Bytes first) (v : Bytes second)
-    (p : Promise op first second steps work out (Accepted n k) steps' work' out') where
+    (p : Promise op first second steps work out (Ok (record { steps = n; bytes = k })) steps' work' out') where
   placed_image : (zs : List ℕ) → outcome op first second (length steps) (length work) (length out) ≡ placed zs → take k out' ≡ image_for zs
   placed_image zs e =
       let b : k ≡ length (image_for zs) = ap (λ (l : List ℕ). get_or l 1 0) (paper_values (p.answers ∙ ap answer e)) in

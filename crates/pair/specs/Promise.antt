@@ -1,9 +1,10 @@
 -- What an operation on two images promises: from the images and the lengths of the three buffers how it ends, and what that leaves.
-use Rattle.std.specs.Prelude.{List, ℕ, length}
+use Rattle.std.specs.Prelude.{List, ℕ, length, Result}
 use Rattle.rules.specs.Refusals.{on_side}
+use Rattle.rules.specs.declared.Refusal.{Refusal}
 use Rattle.image.specs.Verdict.{Verdict, taken, refused, verdict}
-use Rattle.write.specs.declared.Counted.{Counted}
 use Rattle.write.specs.Outcome.{Outcome, stopped}
+use Rattle.write.specs.declared.Counted.{Counted}
 use Rattle.outcome.specs.Result.{of_result, Leaves}
 use Rattle.pair_operation.specs.declared.Operation.{Operation}
 use Rattle.pair_operation.specs.Result.{result_of}
@@ -19,6 +20,6 @@ abbrev pub outcome : Operation → List ℕ → List ℕ → ℕ → ℕ → ℕ
 outcome op first second steps work out = on_verdicts op (verdict first) (verdict second) steps work out
 
 -- the answer, and the three buffers afterwards
-abbrev pub Promise : Operation → List ℕ → List ℕ → List ℕ → List ℕ → List ℕ → Counted → List ℕ → List ℕ → List ℕ → Type 0
+abbrev pub Promise : Operation → List ℕ → List ℕ → List ℕ → List ℕ → List ℕ → Result Counted Refusal → List ℕ → List ℕ → List ℕ → Type 0
 Promise op first second steps work out r steps' work' out' =
     Leaves (outcome op first second (length steps) (length work) (length out)) steps work out r steps' work' out'

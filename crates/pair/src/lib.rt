@@ -8,15 +8,12 @@
 ghost use Rattle.std.specs.Prelude.{◌≡◌, ◌++◌, ◌+◌, ◌≤◌, ◌<◌, length, drop};
 ghost use Rattle.rules.specs.Refusals.{on_side};
 ghost use Rattle.image.specs.Taken.{steps_of, Taken};
-ghost use Rattle.write.specs.declared.Counted.TheVariants.{Refused};
 ghost use Rattle.pair_operation.specs.declared.Operation.TheVariants.{Both, Either, Without};
 ghost use Rattle.pair_operation.specs.Result.{result_of};
 ghost use Rattle.pair.specs.Promise.{Promise};
 ghost use Rattle.pair.specs.Inside.Room.{Ready, Held};
 
-use outcome::Room;
 use pair_operation::Operation;
-use read::Checked;
 use rules::Refusal;
 use write::Counted;
 
@@ -132,7 +129,7 @@ fn stored<'a>(
     steps: &mut [u32],
     work: &mut [u32],
     out: &mut [u8],
-) -> Counted
+) -> Result<Counted, Refusal>
     requires ready { Ready op first.now second.now (length steps.old) (length work.old) }
     requires held { Held op first.now second.now n few.now }
     ensures { Promise op first.now second.now steps.old work.old out.old result
@@ -153,17 +150,14 @@ fn counted_with<'a>(
     steps: &mut [u32],
     work: &mut [u32],
     out: &mut [u8],
-) -> Counted
+) -> Result<Counted, Refusal>
     requires { Taken first.now × Taken second.now }
     ensures { Promise op first.now second.now steps.old work.old out.old result
         steps.new work.new out.new }
 {
     let n = count(op, first, second, few);
-    let room = outcome::room_for(n, steps.len(), work.len());
-    match room {
-        Room::Refused(r) => Counted::Refused(r),
-        Room::Enough => stored(op, all, n, first, second, few, steps, work, out),
-    }
+    outcome::room_for(n, steps.len(), work.len())?;
+    stored(op, all, n, first, second, few, steps, work, out)
 }
 
 // Counts the result of two images of `all` steps together, and stores and writes it unless something is too short.
@@ -175,7 +169,7 @@ fn counted<'a>(
     steps: &mut [u32],
     work: &mut [u32],
     out: &mut [u8],
-) -> Counted
+) -> Result<Counted, Refusal>
     requires { Taken first.now × Taken second.now }
     ensures { Promise op first.now second.now steps.old work.old out.old result
         steps.new work.new out.new }
@@ -186,14 +180,14 @@ fn counted<'a>(
 }
 
 // A refusal of one of the two images.
-fn on_side(side: u32, r: Refusal) -> Counted
-    ensures { result ≡ Refused (on_side side r) }
+fn on_side(side: u32, r: Refusal) -> Refusal
+    ensures { result ≡ on_side side r }
 {
-    Counted::Refused(Refusal {
+    Refusal {
         number: r.number,
         side,
         place: r.place,
-    })
+    }
 }
 
 // An operation on two images.
@@ -204,24 +198,14 @@ pub fn paired<'a>(
     steps: &mut [u32],
     work: &mut [u32],
     out: &mut [u8],
-) -> Counted
+) -> Result<Counted, Refusal>
     ensures { Promise op first.now second.now steps.old work.old out.old result
         steps.new work.new out.new }
 {
-    let c = read::check(first);
-    match c {
-        Checked::Refused(r) => on_side(FIRST_SIDE, r),
-        Checked::Accepted { steps: n } => {
-            let d = read::check(second);
-            match d {
-                Checked::Refused(r) => on_side(SECOND_SIDE, r),
-                Checked::Accepted { steps: m } => {
-                    let all = n as usize + m as usize;
-                    counted(op, all, first, second, steps, work, out)
-                }
-            }
-        }
-    }
+    let n = read::check(first).map_err(|r| on_side(FIRST_SIDE, r))?;
+    let m = read::check(second).map_err(|r| on_side(SECOND_SIDE, r))?;
+    let all = n as usize + m as usize;
+    counted(op, all, first, second, steps, work, out)
 }
 
 // The steps that both images have.
@@ -231,7 +215,7 @@ pub fn both<'a>(
     steps: &mut [u32],
     work: &mut [u32],
     out: &mut [u8],
-) -> Counted
+) -> Result<Counted, Refusal>
     ensures { Promise Both first.now second.now steps.old work.old out.old result
         steps.new work.new out.new }
 {
@@ -245,7 +229,7 @@ pub fn either<'a>(
     steps: &mut [u32],
     work: &mut [u32],
     out: &mut [u8],
-) -> Counted
+) -> Result<Counted, Refusal>
     ensures { Promise Either first.now second.now steps.old work.old out.old result
         steps.new work.new out.new }
 {
@@ -259,7 +243,7 @@ pub fn without<'a>(
     steps: &mut [u32],
     work: &mut [u32],
     out: &mut [u8],
-) -> Counted
+) -> Result<Counted, Refusal>
     ensures { Promise Without first.now second.now steps.old work.old out.old result
         steps.new work.new out.new }
 {

@@ -27,7 +27,7 @@ use Rattle.pair_dense.specs.Inside.Words.{steps_in}
 use Rattle.pair_dense.specs.Inside.Walks.{Along, Together, result_ahead, Passes}
 use Rattle.pair_operation.proofs.Result.{keeps_none, Rising-sieve, beyond-sieve, has-sieve, has_result, Result_one, Result_is}
 use Rattle.pair_operation.proofs.Turns.{Rising_result_from}
-use Rattle.pair_dense.proofs.Words.{steps_in_words, length_steps_moved}
+use Rattle.pair_dense.proofs.Words.{steps_in_words}
 use Rattle.pair_dense.proofs.Walking.{head_ahead}
 
 -- ---- two lists
@@ -200,13 +200,9 @@ module _ {s pay t tail : List ℕ} {m : Walks} (w : Together s pay t tail m) {le
       }
 
 module _ {s pay t tail : List ℕ} {m : Walks} {left right : List ℕ} {r : Walks} (p : Passes s pay t tail m left right r) (op : Operation) where
-  passes_length : length (result_ahead op s pay t tail m) ≡ length (steps_in op m.next left right) + length (result_ahead op s pay t tail r)
+  pub passes_length : length (result_ahead op s pay t tail m) ≡ length (steps_in op m.next left right) + length (result_ahead op s pay t tail r)
   passes_length = ap length (p.turn op) ∙ length-append (steps_in op m.next left right) (result_ahead op s pay t tail r)
 
   -- where there is room for all, there is room for the steps of the window
   pub passes_room : (n k : ℕ) → n + length (result_ahead op s pay t tail m) ≤ k → n + length (steps_in op m.next left right) ≤ k
   passes_room n k h = omega (arith, passes_length)
-
-  -- the turn counts the steps of the window
-  pub passes_count : length (result_ahead op s pay t tail m) ≡ length (steps_in op 0 left right) + length (result_ahead op s pay t tail r)
-  passes_count = omega (arith, passes_length, length_steps_moved op m.next left right)

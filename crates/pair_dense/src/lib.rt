@@ -3,19 +3,20 @@
 
 #![tactic(auto)]
 
-ghost use Rattle.std.specs.Prelude.{◌≡◌, [], ◌++◌, ◌+◌, ◌*◌, ◌^◌, ◌≤◌, ◌<◌, length, drop};
+ghost use Rattle.std.specs.Prelude.{◌≡◌, IsTrue, [], ◌++◌, ◌+◌, ◌*◌, ◌^◌, ◌≤◌, ◌<◌, length, drop};
 ghost use Rattle.lists.specs.Rising.{beyond};
 ghost use Rattle.lists.specs.Stores.{Puts, Brief};
 ghost use Rattle.rules.specs.Limits.{no_step};
 ghost use Rattle.row.specs.Row.{bits_from};
 ghost use Rattle.row.specs.Words.{word_bits};
 ghost use Rattle.pair_window.specs.Window.{words_from};
-ghost use Rattle.image.specs.Taken.{steps_of, Taken, payload_in};
+ghost use Rattle.image.specs.Taken.{steps_of, Taken};
 ghost use Rattle.pair_operation.specs.Result.{result_of};
 ghost use Rattle.pair_dense.specs.Inside.Words.{word_of, steps_in};
+ghost use Rattle.pair_dense.specs.Inside.Taking.{Taking};
 ghost use Rattle.pair_dense.specs.Inside.Walks.{Together, Begins, Passes};
 
-use image_walk::Walk;
+use image_walk::{Accepted, Walk};
 use pair_operation::Operation;
 use row::WORD_BITS;
 
@@ -46,11 +47,9 @@ fn count_window<'a>(op: Operation, left: &'a [usize], right: &'a [usize]) -> usi
     requires { (length left.now ≡ length right.now) × Brief left.now }
     ensures { result ≡ length (steps_in op 0 left.now right.now) }
 {
-    let mut i: usize = 0;
     let mut n: usize = 0;
-    while i < left.len() {
-        n += row::ones(joined(op, left[i], right[i]));
-        i += 1;
+    for (a, b) in left.iter().zip(right) {
+        n += row::ones(joined(op, *a, *b));
     }
     n
 }
@@ -79,37 +78,24 @@ fn put_window<'a>(
     requires right_in_bounds { at + length (steps_in op from left.now right.now) ≤ length steps.old }
     ensures { Puts steps.old at (steps_in op from left.now right.now) steps.new result }
 {
-    let mut i: usize = 0;
     let mut k = at;
-    while i < left.len() {
-        k = put_joined(
-            joined(op, left[i], right[i]),
-            from + WORD_BITS * i,
-            steps,
-            k,
-        );
-        i += 1;
+    for (i, a) in left.iter().enumerate() {
+        let word = joined(op, *a, right[i]);
+        k = put_joined(word, from + WORD_BITS * i, steps, k);
     }
     k
 }
 
 // The two walks at their first steps.
-fn start<'a>(
-    first: &'a [u8],
-    first_payload: &'a [u8],
-    second: &'a [u8],
-    second_payload: &'a [u8],
-) -> Walks
-    requires taken { Taken first.now × (first_payload.now ≡ payload_in first.now) }
-    requires taken_2 { Taken second.now × (second_payload.now ≡ payload_in second.now) }
-    ensures { Begins first.now first_payload.now second.now second_payload.now result }
+fn start<'a>(first: Accepted<'a>, second: Accepted<'a>) -> Walks
+    ensures { Begins first.entry.image.now first.entry.payload.now second.entry.image.now second.entry.payload.now result }
 {
-    let a = image_walk::first(first, first_payload);
-    let b = image_walk::first(second, second_payload);
+    let a = image_walk::first(first);
+    let b = image_walk::first(second);
     Walks {
         first: a,
         second: b,
-        next: rules::lower(a.step, b.step),
+        next: a.step.min(b.step),
     }
 }
 
@@ -118,55 +104,78 @@ fn lay_both<'a>(
     m: Walks,
     left: &mut [usize],
     right: &mut [usize],
-    first: &'a [u8],
-    first_payload: &'a [u8],
-    second: &'a [u8],
-    second_payload: &'a [u8],
+    first: Accepted<'a>,
+    second: Accepted<'a>,
 ) -> Walks
-    requires together { Together first.now first_payload.now second.now second_payload.now m × (m.next < no_step) }
+    requires together { Together first.image.now first.payload.now second.image.now second.payload.now m × (m.next < no_step) }
     requires left_value { (left.old ≡ words_from (length left.old) m.next []) × ((0 < length left.old) × Brief left.old) }
     requires right_value { (right.old ≡ words_from (length right.old) m.next []) × (length right.old ≡ length left.old) }
-    ensures { Passes first.now first_payload.now second.now second_payload.now m
+    ensures { Passes first.entry.image.now first.entry.payload.now second.entry.image.now second.entry.payload.now m
         left.new right.new result }
 {
     let from = m.next;
-    let a = pair_lay::lay_window(m.first, from, left, first, first_payload);
-    let b = pair_lay::lay_window(m.second, from, right, second, second_payload);
+    let a = pair_lay::lay_window(m.first, from, left, first);
+    let b = pair_lay::lay_window(m.second, from, right, second);
     Walks {
         first: a,
         second: b,
-        next: rules::lower(a.step, b.step),
+        next: a.step.min(b.step),
     }
 }
 
-// How many steps the result has, window by window.
-pub fn count<'a>(op: Operation, first: &'a [u8], second: &'a [u8]) -> usize
-    requires { Taken first.now × Taken second.now }
-    ensures { result ≡ length (result_of op (steps_of first.now) (steps_of second.now)) }
+// Counts the steps that an operation keeps of two windows, whose first bit stands for `from`, and stores them if so wanted. `at` steps went
+// before, and it gives how many went then.
+fn take_window<'a, const STORED: bool>(
+    op: Operation,
+    from: usize,
+    left: &'a [usize],
+    right: &'a [usize],
+    steps: &mut [u32],
+    at: usize,
+) -> usize
+    requires left_len { (length left.now ≡ length right.now) × (Brief left.now × (from + word_bits * length left.now ≤ 2 ^ 32)) }
+    requires counted { at + length (steps_in op from left.now right.now) ≤ no_step }
+    requires room { IsTrue STORED → at + length (steps_in op from left.now right.now) ≤ length steps.old }
+    ensures { Taking STORED steps.old at (steps_in op from left.now right.now) steps.new result }
+{
+    if STORED {
+        return put_window(op, from, left, right, steps, at);
+    }
+    at + count_window(op, left, right)
+}
+
+// Takes the steps of the result, window by window, and gives their number.
+fn take_all<'a, const STORED: bool>(
+    op: Operation,
+    first: Accepted<'a>,
+    second: Accepted<'a>,
+    steps: &mut [u32],
+) -> usize
+    requires { IsTrue STORED → length (result_of op (steps_of first.image.now) (steps_of second.image.now)) ≤ length steps.old }
+    ensures { Taking STORED steps.old 0 (result_of op (steps_of first.entry.image.now) (steps_of second.entry.image.now)) steps.new result }
 {
     let end = rules::no_step();
-    let first_payload = image_directory::payload(first);
-    let second_payload = image_directory::payload(second);
-    let mut m = start(first, first_payload, second, second_payload);
+    let mut m = start(first, second);
     let mut n: usize = 0;
     while m.next < end {
         let mut left: [usize; WORDS] = [0; WORDS];
         let mut right: [usize; WORDS] = [0; WORDS];
-        m = lay_both(
-            m,
-            &mut left,
-            &mut right,
-            first,
-            first_payload,
-            second,
-            second_payload,
-        );
-        n += count_window(op, &left, &right);
+        let from = m.next;
+        m = lay_both(m, &mut left, &mut right, first, second);
+        n = take_window::<STORED>(op, from, &left, &right, steps, n);
     }
     n
 }
 
-// Stores the steps of the result, window by window, and gives their number.
+// How many steps the result has.
+pub fn count<'a>(op: Operation, first: &'a [u8], second: &'a [u8]) -> usize
+    requires { Taken first.now × Taken second.now }
+    ensures { result ≡ length (result_of op (steps_of first.now) (steps_of second.now)) }
+{
+    take_all::<false>(op, Accepted::new(first), Accepted::new(second), &mut [])
+}
+
+// Stores the steps of the result, and gives their number.
 pub fn store<'a>(op: Operation, first: &'a [u8], second: &'a [u8], steps: &mut [u32]) -> usize
     requires taken { Taken first.now × Taken second.now }
     requires second_in_bounds { length (result_of op (steps_of first.now) (steps_of second.now)) ≤ length steps.old }
@@ -174,25 +183,5 @@ pub fn store<'a>(op: Operation, first: &'a [u8], second: &'a [u8], steps: &mut [
         × (steps.new ≡ result_of op (steps_of first.now) (steps_of second.now)
         ++ drop (length (result_of op (steps_of first.now) (steps_of second.now))) steps.old) }
 {
-    let end = rules::no_step();
-    let first_payload = image_directory::payload(first);
-    let second_payload = image_directory::payload(second);
-    let mut m = start(first, first_payload, second, second_payload);
-    let mut n: usize = 0;
-    while m.next < end {
-        let mut left: [usize; WORDS] = [0; WORDS];
-        let mut right: [usize; WORDS] = [0; WORDS];
-        let from = m.next;
-        m = lay_both(
-            m,
-            &mut left,
-            &mut right,
-            first,
-            first_payload,
-            second,
-            second_payload,
-        );
-        n = put_window(op, from, &left, &right, steps, n);
-    }
-    n
+    take_all::<true>(op, Accepted::new(first), Accepted::new(second), steps)
 }

@@ -2,7 +2,7 @@
 -- Assumes nothing.
 use mathlib.Core.Path.{◌≡◌, refl, sym, ap, ◌∙◌, subst}
 use mathlib.Core.List.{List, ◌∷◌, ◌++◌}
-use Prim.Native.Nat.{ℕ, ◌+◌, ◌-◌, ◌≤◌, ◌<◌}
+use Prim.Native.Nat.{ℕ, ◌+◌, ◌-◌, ◌^◌, ◌≤◌, ◌<◌}
 use native.Mathlib.Omega.{arith}
 use lib.ListN.{length, get_or, drop, set, length-set}
 use lib.Seq.{get_or-take, get_or-drop}
@@ -11,9 +11,10 @@ use Rattle.lists.specs.Parts.{part}
 use Rattle.lists.specs.Bytes.{Bytes}
 use Rattle.lists.proofs.Choice.{by_lt}
 use Rattle.lists.proofs.Parts.{length_part}
+use Rattle.rules.specs.Limits.Laws.{largest_coded}
 use Rattle.rules.specs.Limits.{no_step}
-use Rattle.code.specs.declared.Reading.TheVariants.{Code}
-use Rattle.code.specs.Code.{read_at}
+use Rattle.std.specs.Prelude.{Ok}
+use Rattle.code.specs.Code.{reading, read_at}
 use Rattle.code.specs.Fronts.{Starts, Brief}
 use Rattle.image_walk.specs.declared.Walk.{Walk}
 use Rattle.image_walk.specs.Blocks.{later}
@@ -43,7 +44,7 @@ module _ {s pay : List ℕ} {w : Walk} (t : Stands s pay w) (b : w.bits ≡ 0) (
       opening_bad (w.step + 1) pay w.at w.end (o.codes b) f h o.within e
 
   -- past the walk's step
-  pub codes_next : Bytes pay → (gap n : ℕ) → read_at (part pay w.at w.end) 0 ≡ Code gap n
+  pub codes_next : Bytes pay → (gap n : ℕ) → read_at (part pay w.at w.end) 0 ≡ Ok (reading gap n)
       → Next s pay w (coded_walk (w.step + 1 + gap) (w.at + n) w.end w.block)
   codes_next y gap n r =
       let k = code_next pay w t.placed b h gap n y r in
@@ -51,7 +52,7 @@ module _ {s pay : List ℕ} {w : Walk} (t : Stands s pay w) (b : w.bits ≡ 0) (
       record { stands = p.0; is = p.1; on = k.on }
 
   -- and the code ends in the block
-  pub codes_within : Bytes pay → (gap n : ℕ) → read_at (part pay w.at w.end) 0 ≡ Code gap n → w.at + n ≤ w.end
+  pub codes_within : Bytes pay → (gap n : ℕ) → read_at (part pay w.at w.end) 0 ≡ Ok (reading gap n) → w.at + n ≤ w.end
   codes_within y gap n r =
       let o = among pay w t.placed b h in
       (opening (w.step + 1) pay w.at w.end (o.codes b) gap n y (omega arith) o.within r).within
@@ -84,7 +85,7 @@ run_start t b h l = let k = codes_same t b h in Grown_same (Grown_start t l) _ k
 -- a short code at the front of a part of the payload, by its bytes
 Brief-part : (pay : List ℕ) (at end : ℕ) {value extra more : ℕ} → Brief (get_or pay at 0) (get_or pay (at + 1) 0) value extra more → more ≡ 0
     → at + 2 ≤ end → end ≤ length pay → Starts (part pay at end)
-    → read_at (part pay at end) 0 ≡ Code value (1 + extra)
+    → read_at (part pay at end) 0 ≡ Ok (reading value (1 + extra))
 Brief-part pay at end c z h l t =
     c.reads z (part pay at end) (omega (arith, length_part pay at end (omega arith) l)) (byte 0 at (omega arith) (omega arith))
     (byte 1 (at + 1) (omega arith) (omega arith)) t
@@ -99,6 +100,13 @@ module _ {s pay : List ℕ} {f : Feed} {before steps : List ℕ} {step at k : �
 
   pub run_step : step < no_step
   run_step = codes_step g.stands refl (omega arith)
+
+  -- so that no sum of a step or of a place wraps
+  pub run_small : step < 2 ^ 28
+  run_small = omega (arith, run_step, largest_coded)
+
+  pub run_within : (f.walk.end ≤ length pay) × (length pay < 2 ^ 32)
+  run_within = (run_Open.within, run_Open.few)
 
   -- one step more, where the code that follows it is short
   pub run_one : Bytes pay → k < length steps → {value extra more : ℕ} → Brief (get_or pay at 0) (get_or pay (at + 1) 0) value extra more → more ≡ 0

@@ -4,9 +4,7 @@ use mathlib.Core.Path.{◌≡◌, refl, sym, ap, ◌∙◌}
 use mathlib.Core.List.{List, []}
 use Prim.Native.Nat.{ℕ, ◌+◌, ◌-◌, ◌≤◌, ◌<◌}
 use native.Mathlib.Omega.{arith}
-use native.Mathlib.Decide.{ℕ_discrete}
-use lib.ListN.{length, get_or, drop, set, drop_of_length-le}
-use lib.Seq.{get_or-set_same, get_or-set_other}
+use lib.ListN.{length, get_or, drop, drop_of_length-le}
 use Rattle.rules.specs.Limits.{no_step}
 use Rattle.image_walk.specs.declared.Walk.{Walk}
 use Rattle.image_walk.specs.Walk.{ahead, Stands}
@@ -53,12 +51,3 @@ module _ {s pay : List ℕ} {w : Walk} (t : Stands s pay w) where
 -- all was taken, so that what is ahead is the list
 pub taken_all : {s pay : List ℕ} {f : Feed} {steps xs : List ℕ} → Fed s pay f steps xs → f.end ≤ f.at → ahead s pay f.walk ≡ xs
 taken_all {s} {pay} {f} {steps} {xs} d h = let q : f.end - f.at ≡ 0 = omega arith in d.rest ∙ ap (λ (n : ℕ). drop n xs) q
-
--- one place more that says that there is no step
-pub none_more : (steps : List ℕ) (i x : ℕ) → i < length steps → x ≡ no_step → ((j : ℕ) → j < i → get_or steps j 0 ≡ no_step)
-    → (j : ℕ) → j < i + 1 → get_or (set steps i x) j 0 ≡ no_step
-none_more steps i x h e all j l = by (ℕ_discrete j i)
-  where
-    by : Dec (j ≡ i) → get_or (set steps i x) j 0 ≡ no_step
-    by (yes q) = ap (λ (n : ℕ). get_or (set steps i x) n 0) q ∙ get_or-set_same steps i x 0 h ∙ e
-    by (no q) = get_or-set_other steps i j x 0 q ∙ all j (omega (arith, q))

@@ -7,13 +7,12 @@
 ghost use Rattle.std.specs.Prelude.{◌≡◌, List, ◌∷◌, ℕ, ◌≤◌, ◌<◌, length, get_or};
 ghost use Rattle.lists.specs.Stores.{Brief};
 ghost use Rattle.rules.specs.Limits.{no_step};
-ghost use Rattle.image.specs.Taken.{steps_of, Taken, payload_in};
+ghost use Rattle.image.specs.Taken.{steps_of};
 ghost use Rattle.image_walk.specs.Walk.{ahead, Stands};
 ghost use Rattle.pair_feed.specs.Feed.{Fed};
 ghost use Rattle.pair_feed.specs.Inside.Growth.{Grown, among_codes};
 
-use code::Reading;
-use image_walk::Walk;
+use image_walk::{Accepted, Walk};
 
 // The next steps of an image, in a buffer: the numbers of the buffer from `at` to before `end`, and the walk at the step after them. Where no
 // step is left, the numbers are one past the largest step, which is above every step, so that who merges need not ask for the end at every
@@ -40,11 +39,13 @@ fn among(f: Feed, step: usize, at: usize, k: usize) -> Feed
 }
 
 // Stores the steps of a walk among codes, two at a time, as long as codes of one byte or two follow and there is room.
-fn run<'a>(f: Feed, steps: &mut [u32], image: &'a [u8], payload: &'a [u8]) -> Feed
-    requires stands { Stands image.now payload.now f.walk × ((f.walk.bits ≡ 0) × (f.walk.at < f.walk.end)) }
+#[tactic(auto, using(crate::proofs::Coding::run_within))]
+fn run<'a>(f: Feed, steps: &mut [u32], source: Accepted<'a>) -> Feed
+    requires stands { Stands source.image.now source.payload.now f.walk × ((f.walk.bits ≡ 0) × (f.walk.at < f.walk.end)) }
     requires steps_nonzero { (0 < length steps.old) × ((f.end ≤ length steps.old) × Brief steps.old) }
-    ensures { Grown image.now payload.now f steps.old result steps.new }
+    ensures { Grown source.entry.image.now source.entry.payload.now f steps.old result steps.new }
 {
+    let payload = source.payload;
     let end = f.walk.end;
     if end < PAIR_BYTES {
         return f;
@@ -79,46 +80,44 @@ fn run<'a>(f: Feed, steps: &mut [u32], image: &'a [u8], payload: &'a [u8]) -> Fe
 }
 
 // The walk at the step of the code that it stands before.
-fn past_code<'a>(w: Walk, image: &'a [u8], payload: &'a [u8]) -> Walk
-    requires { Stands image.now payload.now w × ((w.bits ≡ 0) × (w.at < w.end)) }
-    ensures { Stands image.now payload.now result
-        × (ahead image.now payload.now w ≡ w.step ∷ ahead image.now payload.now result) }
+fn past_code<'a>(w: Walk, source: Accepted<'a>) -> Walk
+    requires { Stands source.image.now source.payload.now w × ((w.bits ≡ 0) × (w.at < w.end)) }
+    ensures { Stands source.entry.image.now source.entry.payload.now result
+        × (ahead source.entry.image.now source.entry.payload.now w ≡ w.step ∷ ahead source.entry.image.now source.entry.payload.now result) }
 {
+    let payload = source.payload;
     let at = w.at;
     let end = w.end;
-    let r = code::read(&payload[at..end], 0);
-    match r {
-        Reading::Code { value, next } => {
-            image_walk::coded(w.step + 1 + (value as usize), at + next, end, w.block)
-        }
-        Reading::Bad(_) => w,
+    match code::read(&payload[at..end], 0) {
+        Ok(c) => image_walk::coded(w.step + 1 + (c.value as usize), at + c.next, end, w.block),
+        Err(_) => w,
     }
 }
 
 // The walk at the next step. Where it stands among codes, a run ended there, so that the code is a long one, or the last.
-fn past<'a>(w: Walk, image: &'a [u8], payload: &'a [u8]) -> Walk
-    requires { Stands image.now payload.now w × (w.step < no_step) }
-    ensures { Stands image.now payload.now result
-        × (ahead image.now payload.now w ≡ w.step ∷ ahead image.now payload.now result) }
+fn past<'a>(w: Walk, source: Accepted<'a>) -> Walk
+    requires { Stands source.image.now source.payload.now w × (w.step < no_step) }
+    ensures { Stands source.entry.image.now source.entry.payload.now result
+        × (ahead source.entry.image.now source.entry.payload.now w ≡ w.step ∷ ahead source.entry.image.now source.entry.payload.now result) }
 {
     if w.bits == 0 {
         if w.at < w.end {
-            return past_code(w, image, payload);
+            return past_code(w, source);
         }
     }
-    w.next(image, payload)
+    w.next(source)
 }
 
 // Stores the walk's step, and the steps of the short codes that follow it.
-fn on<'a>(f: Feed, steps: &mut [u32], image: &'a [u8], payload: &'a [u8]) -> Feed
-    requires stands { Stands image.now payload.now f.walk × (f.walk.step < no_step) }
+fn on<'a>(f: Feed, steps: &mut [u32], source: Accepted<'a>) -> Feed
+    requires stands { Stands source.image.now source.payload.now f.walk × (f.walk.step < no_step) }
     requires end_in_bounds { (f.end < length steps.old) × Brief steps.old }
-    ensures { Grown image.now payload.now f steps.old result steps.new × (f.end < result.end) }
+    ensures { Grown source.entry.image.now source.entry.payload.now f steps.old result steps.new × (f.end < result.end) }
 {
     let k = f.end;
     let v = f.walk;
     steps[k] = v.step as u32;
-    let w = past(v, image, payload);
+    let w = past(v, source);
     let g = Feed {
         walk: w,
         at: f.at,
@@ -130,27 +129,23 @@ fn on<'a>(f: Feed, steps: &mut [u32], image: &'a [u8], payload: &'a [u8]) -> Fee
     if w.end <= w.at {
         return g;
     }
-    run(g, steps, image, payload)
+    run(g, steps, source)
 }
 
 // Fills the buffer with one past the largest step.
+#[tactic(auto, using(rules::specs::Limits::Laws::largest_coded))]
 fn fill_with_none(steps: &mut [u32])
     requires { Brief steps.old }
     ensures { (i : ℕ) → i < length steps.new → get_or steps.new i 0 ≡ no_step }
 {
-    let none = rules::no_step() as u32;
-    let mut i: usize = 0;
-    while i < steps.len() {
-        steps[i] = none;
-        i += 1;
-    }
+    steps.fill(rules::no_step() as u32);
 }
 
 // Reads the steps ahead of a walk into the buffer from its front on.
-fn refill<'a>(w: Walk, steps: &mut [u32], image: &'a [u8], payload: &'a [u8]) -> Feed
-    requires stands { Stands image.now payload.now w }
+fn refill<'a>(w: Walk, steps: &mut [u32], source: Accepted<'a>) -> Feed
+    requires stands { Stands source.image.now source.payload.now w }
     requires steps_nonzero { (0 < length steps.old) × Brief steps.old }
-    ensures { Fed image.now payload.now result steps.new (ahead image.now payload.now w)
+    ensures { Fed source.entry.image.now source.entry.payload.now result steps.new (ahead source.entry.image.now source.entry.payload.now w)
         × (result.at < result.end) }
 {
     let none = rules::no_step();
@@ -168,34 +163,33 @@ fn refill<'a>(w: Walk, steps: &mut [u32], image: &'a [u8], payload: &'a [u8]) ->
         at: 0,
         end: 0,
     };
-    let mut f = on(start, steps, image, payload);
+    let mut f = on(start, steps, source);
     while f.end < count {
         if none <= f.walk.step {
             return f;
         }
-        f = on(f, steps, image, payload);
+        f = on(f, steps, source);
     }
     f
 }
 
 // A feed of the steps of an accepted image, from the first on.
-pub fn first<'a>(steps: &mut [u32], image: &'a [u8], payload: &'a [u8]) -> Feed
-    requires taken { Taken image.now × (payload.now ≡ payload_in image.now) }
-    requires steps_nonzero { (0 < length steps.old) × Brief steps.old }
-    ensures { Fed image.now payload.now result steps.new (steps_of image.now) × (result.at < result.end) }
+pub fn first<'a>(steps: &mut [u32], source: Accepted<'a>) -> Feed
+    requires { (0 < length steps.old) × Brief steps.old }
+    ensures { Fed source.entry.image.now source.entry.payload.now result steps.new (steps_of source.entry.image.now) × (result.at < result.end) }
 {
-    refill(image_walk::first(image, payload), steps, image, payload)
+    refill(image_walk::first(source), steps, source)
 }
 
 // A feed that shows at least one number: the same, or read anew where all was taken.
-pub fn more<'a>(f: Feed, steps: &mut [u32], image: &'a [u8], payload: &'a [u8]) -> Feed
-    requires stands { Stands image.now payload.now f.walk × ((f.at ≤ f.end) × (f.end ≤ length steps.old)) }
+pub fn more<'a>(f: Feed, steps: &mut [u32], source: Accepted<'a>) -> Feed
+    requires stands { Stands source.image.now source.payload.now f.walk × ((f.at ≤ f.end) × (f.end ≤ length steps.old)) }
     requires steps_nonzero { (0 < length steps.old) × Brief steps.old }
-    ensures { ((xs : List ℕ) → Fed image.now payload.now f steps.old xs
-        → Fed image.now payload.now result steps.new xs) × (result.at < result.end) }
+    ensures { ((xs : List ℕ) → Fed source.entry.image.now source.entry.payload.now f steps.old xs
+        → Fed source.entry.image.now source.entry.payload.now result steps.new xs) × (result.at < result.end) }
 {
     if f.at < f.end {
         return f;
     }
-    refill(f.walk, steps, image, payload)
+    refill(f.walk, steps, source)
 }

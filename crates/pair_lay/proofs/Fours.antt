@@ -10,8 +10,8 @@ use Rattle.lists.specs.Bytes.{Bytes}
 use Rattle.lists.proofs.Parts.{part-append, part_one}
 use Rattle.rules.specs.Numbers.{number_at}
 use Rattle.rules.proofs.Numbers.{number_four}
-use Rattle.code.specs.declared.Reading.TheVariants.{Code}
-use Rattle.code.specs.Code.{one_group, flag, code_of, code_size}
+use Rattle.std.specs.Prelude.{Ok}
+use Rattle.code.specs.Code.{one_group, flag, code_of, code_size, reading}
 use Rattle.code.proofs.Laws.{code_single, length_code, read_code}
 use Rattle.row.specs.Words.{word_bits}
 use Rattle.pair_window.specs.Window.{Adds}
@@ -61,7 +61,7 @@ module _ (pay : List ℕ) (at gap : ℕ) (h : at < length pay) (e : gap ≡ get_
         is = q;
         reads =
             λ end g within.
-            read_code (part pay at end) 0 gap (part pay (at + 1) end) (omega arith) (front end g) ∙ ap (Code gap) one_byte;
+            read_code (part pay at end) 0 gap (part pay (at + 1) end) (omega arith) (front end g) ∙ ap (λ (n : ℕ). Ok (reading gap n)) one_byte;
       }
 
 -- the number of four such bytes, with 1 added to each, has the strides as its bytes
@@ -130,3 +130,9 @@ module _ (pay : List ℕ) (w : Walk) (o : ℕ) (words : List ℕ) where
         let p : ℕ = place + first + second in
         let s₃ = Ran-stride words₂ p (at + 2) (at + 3) third s₂ (omega arith) (omega arith) (omega arith) k.three words₃ z₃ a₃ in
         Ran-stride words₃ (place + first + second + third) (at + 3) (at + at_once) fourth s₃ (omega arith) (omega arith) l k.four words₄ z₄ a₄
+
+-- ---- how far four codes of one byte lead
+
+pub strides : {pay : List ℕ} {at first second third fourth : ℕ} → Leading pay at first second third fourth
+    → (first ≤ one_group) × ((second ≤ one_group) × ((third ≤ one_group) × (fourth ≤ one_group)))
+strides k = (omega (arith, k.one.is, k.one.small), (omega (arith, k.two.is, k.two.small), (omega (arith, k.three.is, k.three.small), omega (arith, k.four.is, k.four.small))))

@@ -11,8 +11,8 @@ use Rattle.lists.specs.Bytes.{Bytes}
 use Rattle.lists.proofs.Choice.{by_lt}
 use Rattle.lists.proofs.Rising.{beyond-append, beyond_rest}
 use Rattle.rules.specs.Limits.{no_step}
-use Rattle.code.specs.declared.Reading.TheVariants.{Code}
-use Rattle.code.specs.Code.{read_at}
+use Rattle.std.specs.Prelude.{Ok}
+use Rattle.code.specs.Code.{reading, read_at}
 use Rattle.row.specs.Words.{word_bits}
 use Rattle.pair_window.specs.Window.{words_from, Adds}
 use Rattle.image.specs.Entry.{before_at}
@@ -46,7 +46,7 @@ module _ (pay : List ℕ) (w : Walk) (o : ℕ) (words : List ℕ) where
 
   -- one more, whose code is followed by that of `gap`
   module _ (words' : List ℕ) (step at : ℕ) (s : Ran pay w o words words' (coded_walk step at w.end w.block)) where
-    pub Ran_turn : Bytes pay → at < w.end → step < o + word_bits * length words → (gap n : ℕ) → read_at (part pay at w.end) 0 ≡ Code gap n
+    pub Ran_turn : Bytes pay → at < w.end → step < o + word_bits * length words → (gap n : ℕ) → read_at (part pay at w.end) 0 ≡ Ok (reading gap n)
         → (words'' : List ℕ) → length words'' ≡ length words' → Adds words' (λ (p : ℕ). (p + (step - o)) ∷ []) words''
         → Ran pay w o words words'' (coded_walk (step + (gap + 1)) (at + n) w.end w.block)
     Ran_turn y h l gap n r words'' z a =

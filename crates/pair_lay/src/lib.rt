@@ -3,7 +3,7 @@
 
 #![tactic(auto)]
 
-ghost use Rattle.std.specs.Prelude.{◌≡◌, [], ◌+◌, ◌-◌, ◌/◌, ◌%◌, ◌≤◌, ◌<◌, length};
+ghost use Rattle.std.specs.Prelude.{◌≡◌, [], ◌+◌, ◌-◌, ◌/◌, ◌%◌, ◌≤◌, ◌<◌, length, IfSome};
 ghost use Rattle.lists.specs.Stores.{Brief};
 ghost use Rattle.rules.specs.Limits.{no_step};
 ghost use Rattle.pair_window.specs.Window.{words_from};
@@ -15,7 +15,7 @@ ghost use Rattle.pair_lay.specs.Lays.{LaysWindow};
 ghost use Rattle.pair_lay.specs.Inside.Runs.{Opens, Ran};
 ghost use Rattle.pair_lay.specs.Inside.Fours.{at_once, Plain, Leading};
 
-use image_walk::Walk;
+use image_walk::{Accepted, Walk};
 use row::WORD_BITS;
 
 // Document 01: the values of a byte.
@@ -42,12 +42,12 @@ struct Four {
 }
 
 // The value of the code at a place of the payload, in a part that goes up to `end`, where it has one byte.
-fn single_at(payload: &[u8], at: usize, end: usize) -> usize
+fn single_at(payload: &[u8], at: usize, end: usize) -> Option<usize>
     requires { at < end → end ≤ length payload.now }
-    ensures { Opens payload.now at end result }
+    ensures { IfSome result (Opens payload.now at end) }
 {
     if end <= at {
-        return code::CODE_VALUES;
+        return None;
     }
     code::single(&payload[at..end])
 }
@@ -146,10 +146,9 @@ fn lay_run(w: Walk, from: usize, words: &mut [usize], payload: &[u8]) -> Walk
     let mut step = v.step;
     let mut at = v.at;
     while step < bound {
-        let gap = single_at(payload, at, end);
-        if code::CODE_VALUES <= gap {
-            return image_walk::coded(step, at, end, w.block);
-        }
+        let Some(gap) = single_at(payload, at, end) else {
+            break;
+        };
         pair_window::mark(words, step - from);
         step += gap + 1;
         at += 1;
@@ -158,79 +157,60 @@ fn lay_run(w: Walk, from: usize, words: &mut [usize], payload: &[u8]) -> Walk
 }
 
 // The walk at the next step after a step among codes, by a code of two bytes or as any walk goes.
-fn next_code<'a>(w: Walk, image: &'a [u8], payload: &'a [u8]) -> Walk
-    requires { Stands image.now payload.now w × ((w.bits ≡ 0) × (w.step < no_step)) }
-    ensures { Follows image.now payload.now w result }
+fn next_code<'a>(w: Walk, source: Accepted<'a>) -> Walk
+    requires { Stands source.image.now source.payload.now w × ((w.bits ≡ 0) × (w.step < no_step)) }
+    ensures { Follows source.entry.image.now source.entry.payload.now w result }
 {
     let at = w.at;
     let end = w.end;
     if at < end {
-        let gap = code::double(&payload[at..end]);
-        if gap < code::CODE_VALUES {
+        if let Some(gap) = code::double(&source.payload[at..end]) {
             return image_walk::coded(w.step + 1 + gap, at + 2, end, w.block);
         }
     }
-    w.next(image, payload)
+    w.next(source)
 }
 
 // Lays the step of a walk among codes and those of the codes after it, and moves past them. The walk mostly stands before a code of two
 // bytes: it is the end of a run.
-fn lay_codes<'a>(
-    w: Walk,
-    from: usize,
-    words: &mut [usize],
-    image: &'a [u8],
-    payload: &'a [u8],
-) -> Walk
-    requires { Stands image.now payload.now w × (Within w from words.old × (w.bits ≡ 0)) }
-    ensures { Lays image.now payload.now w from words.old words.new result }
+fn lay_codes<'a>(w: Walk, from: usize, words: &mut [usize], source: Accepted<'a>) -> Walk
+    requires { Stands source.image.now source.payload.now w × (Within w from words.old × (w.bits ≡ 0)) }
+    ensures { Lays source.entry.image.now source.entry.payload.now w from words.old words.new result }
 {
     pair_window::mark(words, w.step - from);
-    let v = next_code(w, image, payload);
+    let v = next_code(w, source);
     if v.end <= v.at {
         return v;
     }
     if v.bits != 0 {
         return v;
     }
-    lay_run(v, from, words, payload)
+    lay_run(v, from, words, source.payload)
 }
 
 // Lays what is loaded, as far as it falls into a window, and moves past it.
-fn lay_loaded<'a>(
-    w: Walk,
-    from: usize,
-    words: &mut [usize],
-    image: &'a [u8],
-    payload: &'a [u8],
-) -> Walk
-    requires { Stands image.now payload.now w × Within w from words.old }
-    ensures { Lays image.now payload.now w from words.old words.new result }
+fn lay_loaded<'a>(w: Walk, from: usize, words: &mut [usize], source: Accepted<'a>) -> Walk
+    requires { Stands source.image.now source.payload.now w × Within w from words.old }
+    ensures { Lays source.entry.image.now source.entry.payload.now w from words.old words.new result }
 {
     if w.bits == 0 {
-        return lay_codes(w, from, words, image, payload);
+        return lay_codes(w, from, words, source);
     }
-    pair_lay_row::lay_word(w, from, words, image, payload)
+    pair_lay_row::lay_word(w, from, words, source)
 }
 
 // Lays the steps ahead that fall into a window, whose first bit stands for `from`, and gives the walk at the first step after it.
-pub fn lay_window<'a>(
-    w: Walk,
-    from: usize,
-    words: &mut [usize],
-    image: &'a [u8],
-    payload: &'a [u8],
-) -> Walk
-    requires stands { Stands image.now payload.now w × (from ≤ w.step) }
+pub fn lay_window<'a>(w: Walk, from: usize, words: &mut [usize], source: Accepted<'a>) -> Walk
+    requires stands { Stands source.image.now source.payload.now w × (from ≤ w.step) }
     requires words_value { (words.old ≡ words_from (length words.old) from []) × Brief words.old }
-    ensures { LaysWindow image.now payload.now w from words.new result }
+    ensures { LaysWindow source.entry.image.now source.entry.payload.now w from words.new result }
 {
     let none = rules::no_step();
     let bound = from + WORD_BITS * words.len();
-    let top = rules::lower(bound, none);
+    let top = bound.min(none);
     let mut at = w;
     while at.step < top {
-        at = lay_loaded(at, from, words, image, payload);
+        at = lay_loaded(at, from, words, source);
     }
     at
 }

@@ -11,6 +11,7 @@ use Rattle.lists.specs.Rising.{Rising, beyond}
 use Rattle.lists.specs.Parts.{part}
 use Rattle.lists.proofs.Rising.{beyond-append, beyond_rest, Rising_weaken, Rising-append}
 use Rattle.rules.specs.Limits.{no_step}
+use Rattle.rules.specs.Limits.Laws.{largest_coded}
 use Rattle.row.specs.Row.{bits_from}
 use Rattle.row.specs.Words.{word_bits}
 use Rattle.row.proofs.Row.{Rising_row}
@@ -22,8 +23,24 @@ use Rattle.image_walk.specs.Turns.{met_walk, left, Left, onward, Turned}
 use Rattle.pair_lay_row.specs.Inside.Rows.{word_rest, Cuts}
 use Rattle.image_walk.proofs.Shapes.{left_row, first_below}
 use Rattle.image_walk.proofs.Ahead.{word_here, word_beyond, word_ahead}
+use Rattle.image_walk.proofs.Passing.{on_step}
 use Rattle.image_walk.proofs.Standing.{met_Placed, row_Readable}
-use Rattle.pair_lay_row.proofs.Bits.{bits_above, bits_split}
+use Rattle.pair_lay_row.proofs.Bits.{bits_above, bits_split, lowest_shifted}
+
+-- ---- at a one of the loaded word
+
+module _ {s pay : List ℕ} {w : Walk} (t : Stands s pay w) (some : 0 < w.bits) (fits : w.bits < 2 ^ word_bits) where
+  pub at_step : (w.step < no_step) × ((w.low ≤ w.step) × (w.low < 2 ^ 32))
+  at_step =
+      let h = on_step pay w t.placed (λ z. omega arith) fits in
+      let l = (t.placed.on h).low in
+      (h, (l, omega (arith, l, largest_coded)))
+
+  -- the word from its lowest one on
+  pub shifted : (w.low ≤ w.step) × ((w.step - w.low < word_bits) × (bits_from word_bits w.step (w.bits / 2 ^ (w.step - w.low)) ≡ bits_from word_bits w.low w.bits))
+  shifted =
+      let o = t.placed.on at_step.0 in
+      (o.low, lowest_shifted w.low w.step w.bits some fits (o.row (λ z. omega arith)).lowest)
 
 -- ---- past all of them
 

@@ -10,7 +10,7 @@ ghost use Rattle.image_walk.specs.Turns.{Readable};
 ghost use Rattle.pair_lay_row.specs.Lays.{Within, Lays};
 ghost use Rattle.pair_lay_row.specs.Inside.Rows.{word_rest, Cuts, Rows};
 
-use image_walk::{Rest, Walk};
+use image_walk::{Accepted, Rest, Walk};
 use row::{WORD_BITS, WORD_BYTES};
 
 // What a walk in a row has left when all ones of its word are passed.
@@ -29,14 +29,14 @@ fn past_word(w: Walk) -> Rest
 }
 
 // Moves past the ones of the loaded word that lie before a bound, which falls into the word.
-fn past_below<'a>(w: Walk, bound: usize, image: &'a [u8], payload: &'a [u8]) -> Walk
-    requires { Stands image.now payload.now w × ((0 < w.bits) × ((w.step < bound) × (bound < w.low + word_bits))) }
-    ensures { Cuts image.now payload.now w bound result }
+fn past_below<'a>(w: Walk, bound: usize, source: Accepted<'a>) -> Walk
+    requires { Stands source.image.now source.payload.now w × ((0 < w.bits) × ((w.step < bound) × (bound < w.low + word_bits))) }
+    ensures { Cuts source.entry.image.now source.entry.payload.now w bound result }
 {
     let under = bound - w.low;
     let bits = w.bits >> under << under;
     if bits == 0 {
-        return image_walk::turned(past_word(w), image, payload);
+        return image_walk::turned(past_word(w), source);
     }
     image_walk::met(w.low, bits, w.at, w.end, w.block)
 }
@@ -47,7 +47,7 @@ fn fitting(p: Rest, room: usize) -> usize
     ensures { (word_bits * result ≤ room) × (p.at + word_bytes * result < p.end) }
 {
     let count = (p.end - p.at - 1) / WORD_BYTES;
-    rules::lower(count, room / WORD_BITS)
+    count.min(room / WORD_BITS)
 }
 
 // Lays the words of a row that fall into a window whole, the row's last word aside, and gives what is left then.
@@ -61,12 +61,10 @@ fn lay_words(p: Rest, from: usize, words: &mut [usize], payload: &[u8]) -> Rest
     }
     let place = p.from - from;
     let count = fitting(p, WORD_BITS * words.len() - place);
-    let mut i: usize = 0;
-    while i < count {
+    for i in 0..count {
         let at = p.at + WORD_BYTES * i;
         let bits = row::word(&payload[at..at + WORD_BYTES]);
         pair_window::lay(words, place + WORD_BITS * i, bits);
-        i += 1;
     }
     Rest {
         next: p.next,
@@ -80,21 +78,15 @@ fn lay_words(p: Rest, from: usize, words: &mut [usize], payload: &[u8]) -> Rest
 
 // Lays what of the loaded word falls into a window, and the words after it, and moves past them. The lowest one goes to its own place,
 // which is never before the window.
-pub fn lay_word<'a>(
-    w: Walk,
-    from: usize,
-    words: &mut [usize],
-    image: &'a [u8],
-    payload: &'a [u8],
-) -> Walk
-    requires { Stands image.now payload.now w × (Within w from words.old × (0 < w.bits)) }
-    ensures { Lays image.now payload.now w from words.old words.new result }
+pub fn lay_word<'a>(w: Walk, from: usize, words: &mut [usize], source: Accepted<'a>) -> Walk
+    requires { Stands source.image.now source.payload.now w × (Within w from words.old × (0 < w.bits)) }
+    ensures { Lays source.entry.image.now source.entry.payload.now w from words.old words.new result }
 {
     let bound = from + WORD_BITS * words.len();
     pair_window::lay(words, w.step - from, w.bits >> (w.step - w.low));
     if bound < w.low + WORD_BITS {
-        return past_below(w, bound, image, payload);
+        return past_below(w, bound, source);
     }
-    let q = lay_words(past_word(w), from, words, payload);
-    image_walk::turned(q, image, payload)
+    let q = lay_words(past_word(w), from, words, source.payload);
+    image_walk::turned(q, source)
 }

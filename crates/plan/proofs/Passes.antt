@@ -2,14 +2,14 @@
 -- Assumes nothing.
 use mathlib.Core.Path.{◌≡◌, refl, sym, ap, subst, ◌∙◌}
 use mathlib.Core.List.{List}
-use Prim.Native.Nat.{ℕ, ◌+◌, ◌-◌, ◌*◌, ◌≤◌, ◌<◌, min}
+use Prim.Native.Nat.{ℕ, ◌+◌, ◌-◌, ◌*◌, ◌/◌, ◌≤◌, ◌<◌, min}
 use native.Mathlib.Omega.{arith}
 use borrow.Author.Count.{below_more}
 use lib.ListN.{length, get_or, set, length-set}
 use lib.Seq.{get_or-set_same, get_or-set_other, drop-set-lt}
 use Rattle.lists.specs.Rising.{past}
 use Rattle.lists.proofs.Choice.{by_lt}
-use Rattle.lists.proofs.Ranks.{past_next}
+use Rattle.lists.proofs.Ranks.{past_next, past_suc}
 use Rattle.rules.specs.Sizes.{entry_size, work_for}
 use Rattle.rules.specs.Listed.{Listed}
 use Rattle.code.specs.Code.{code_size}
@@ -34,7 +34,7 @@ kept_set {n} {before} {after} k i v h = record {
 pub kept_trans : {n : ℕ} {one two three : List ℕ} → Kept n one two → Kept n two three → Kept n one three
 kept_trans j k = record { same = k.same ∙ j.same; rest = k.rest ∙ j.rest }
 
--- ---- the numbers ahead: of no rank, and from a later rank on
+-- ---- the numbers ahead
 
 pub Ready_none : {xs work : List ℕ} {i : ℕ} → Listed xs → work_for (length xs) ≤ length work → length xs ≤ i → Ready xs work i
 Ready_none l room e = record {
@@ -44,13 +44,29 @@ Ready_none l room e = record {
   codes = λ u h g. absurd (omega arith);
 }
 
-pub ready_on : {xs work : List ℕ} {i : ℕ} → Ready xs work i → (j : ℕ) → i ≤ j → Ready xs work j
-ready_on r j h = record {
-  listed = r.listed;
-  room = r.room;
-  reach = λ u g. r.reach u (omega arith);
-  codes = λ u g. r.codes u (omega arith);
+-- one past the step before a rank that is not the first
+pub past_before : (xs : List ℕ) (i : ℕ) → 0 < i → past xs i ≡ get_or xs (i - 1) 0 + 1
+past_before xs i h = past_suc xs i (λ z. omega (arith, z, h))
+
+-- what stands there of a rank, and that it fits
+pub record Stands (xs work : List ℕ) (j : ℕ) : Type 0 where
+  pub reach : get_or work j 0 ≡ reach_at xs j
+  pub codes : get_or work (length xs + j) 0 ≡ codes_at xs j
+  pub before : 0 < j → past xs j ≡ get_or xs (j - 1) 0 + 1
+  pub fits : Fits xs j
+
+pub stands : {xs work : List ℕ} {i : ℕ} → Ready xs work i → (j : ℕ) → i ≤ j → j < length xs → Stands xs work j
+stands {xs} r j h g = record {
+  reach = r.reach j h g;
+  codes = r.codes j h g;
+  before = past_before xs j;
+  fits = fits r.listed j (omega arith);
 }
+
+-- the fewest bytes of a row from a rank on that is not the first, with its entry and all the blocks after it
+pub row_later : {xs work : List ℕ} {j : ℕ} → Stands xs work j → 0 < j
+    → (get_or work j 0 - (get_or xs (j - 1) 0 + 1) + row_bits) / byte_bits ≡ entry_size + row_at xs j
+row_later s h = omega (arith, s.before h, s.reach, s.fits.from)
 
 -- ---- sizes: the codes of the ranks below `i` are sized
 
@@ -74,10 +90,6 @@ Sizing_turn {xs} {work₀} {work} {i} {p} {x} {g} s h room ep ex eg = record {
   kept = kept_set s.kept p g (omega arith);
 }
 
--- the pass may as well begin here
-pub Sizing_from : {xs work₀ work : List ℕ} {i : ℕ} → Sizing xs work₀ work i → Sizing xs work work i
-Sizing_from s = record { within = s.within; sized = s.sized; kept = Kept_none }
-
 -- the size of a code fits
 pub sized_fits : {g : ℕ} (x : ℕ) → g ≡ code_size x → g ≤ 4
 sized_fits x e = omega (arith, size_most x)
@@ -94,17 +106,15 @@ pub record Valuing (xs work₀ work : List ℕ) (i : ℕ) (turn : Turn) : Type 0
 
 pub Valuing_start : {xs work : List ℕ} {r : ℕ} (i : ℕ) → Listed xs → work_for (length xs) ≤ length work → Sized xs work (length xs)
     → length xs ≡ i + 1 → r ≡ get_or xs i 0 + (1 + row_bits)
-    → Valuing xs work work (i + 1) (record { rest = 0; reach = r })
-Valuing_start {xs} {work} {r} i l room s e er =
-    subst (λ (k : ℕ). Valuing xs work work k (record { rest = 0; reach = r })) e
-    (record {
-      within = omega arith;
-      rest = omega (arith, codes_end xs);
-      reach = omega (arith, er, past_next xs i, ap (past xs) e, codes_end xs, reach_end xs);
-      sized = s;
-      ready = Ready_none l room (omega arith);
-      kept = Kept_none;
-    })
+    → Valuing xs work work (length xs) (record { rest = 0; reach = r })
+Valuing_start {xs} {work} {r} i l room s e er = record {
+  within = omega arith;
+  rest = omega (arith, codes_end xs);
+  reach = omega (arith, er, past_next xs i, ap (past xs) e, codes_end xs, reach_end xs);
+  sized = s;
+  ready = Ready_none l room (omega arith);
+  kept = Kept_none;
+}
 
 -- the rank before those that are done: its numbers, as the planner works them out, are those ahead of it, and all fit
 module _ {xs work₀ work : List ℕ} {j : ℕ} {turn : Turn} (i : ℕ) (v : Valuing xs work₀ work j turn) (ei : i + 1 ≡ j) where
@@ -189,14 +199,12 @@ module _ {xs work₀ work : List ℕ} {j : ℕ} {turn : Turn} (i : ℕ) (v : Val
         omega (arith, ef, Fits_here.start),
       )
 
-      pub Valuing-Turn : {new : Turn} (k : ℕ) → i ≡ k → new ≡ turned codes from turn → Valuing xs work₀ after k new
-      Valuing-Turn {new} k ek en =
-          subst (λ (u : ℕ). Valuing xs work₀ after u new) ek
-          (record {
-            within = omega (arith, v.within);
-            rest = ap (λ (t : Turn). t.rest) en ∙ omega (arith, ec, ef, turn_codes, turn_reach, Fits_here.from);
-            reach = ap (λ (t : Turn). t.reach) en ∙ omega (arith, ec, ef, turn_codes, turn_reach);
-            sized = λ u h. other (length xs + u) (λ q. omega arith) (λ q. omega arith) ∙ v.sized u (omega arith);
-            ready = turn_Ready;
-            kept = turn_Kept;
-          })
+      pub Valuing-Turn : {new : Turn} → new ≡ turned codes from turn → Valuing xs work₀ after i new
+      Valuing-Turn {new} en = record {
+        within = omega (arith, v.within);
+        rest = ap (λ (t : Turn). t.rest) en ∙ omega (arith, ec, ef, turn_codes, turn_reach, Fits_here.from);
+        reach = ap (λ (t : Turn). t.reach) en ∙ omega (arith, ec, ef, turn_codes, turn_reach);
+        sized = λ u h. other (length xs + u) (λ q. omega arith) (λ q. omega arith) ∙ v.sized u (omega arith);
+        ready = turn_Ready;
+        kept = turn_Kept;
+      }

@@ -37,10 +37,6 @@ module _ {On : ℕ → Type 0} {n i : ℕ} where
       passed = λ u a b. by_lt u j (λ g. s.passed u g b) (λ g. f u g a);
     }
 
-    -- what a scan passed, said otherwise
-    pub scan_as : {Q : ℕ → Type 0} → ((u : ℕ) → On u → Q u) → Scanning Q n i j
-    scan_as f = record { after = s.after; within = s.within; passed = λ u a b. f u (s.passed u a b) }
-
     pub scan_stop : (On j → ⊥) → Stops On n i j
     scan_stop t = record { after = s.after; within = s.within; passed = λ u a b. s.passed u b a; stopped = λ h. t }
 

@@ -7,17 +7,19 @@
 
 #![tactic(auto)]
 
-ghost use Rattle.std.specs.Prelude.{◌≡◌, false, ◌+◌, ◌*◌, ◌<◌, ◌≤◌, min, length, get_or, set};
+ghost use Rattle.std.specs.Prelude.{◌≡◌, true, false, ◌+◌, ◌*◌, ◌/◌, ◌%◌, ◌<◌, ◌≤◌, length, get_or, set};
 ghost use Rattle.lists.specs.Rising.{past};
 ghost use Rattle.rules.specs.Limits.{most_steps};
 ghost use Rattle.rules.specs.Sizes.{entry_size, work_for};
 ghost use Rattle.rules.specs.Listed.{Listed};
 ghost use Rattle.row.specs.Row.{row_size};
-ghost use Rattle.plan.specs.Inside.Ahead.{most_ahead, turned, bytes_at, row_at};
+ghost use Rattle.plan.specs.Inside.Ahead.{most_ahead, turned, bytes_at, codes_at, row_at};
 ghost use Rattle.plan.specs.Planned.{Planned, Marked, cut_of};
+ghost use Rattle.plan.specs.Inside.Props.{Ready-prop};
 ghost use Rattle.plan.specs.Inside.Work.{Kept, Sized, Ready, stride, Scanning, GoesOn, AllGoOn, CodesEnd, RowEnd, Chosen, Covered};
 
 // Document 01: the bits of a byte, in the width of the work area's numbers.
+// Kept: a `usize` becomes a `u32` by no `From`, and the cast of a constant is checked where it stands. So with the next.
 const BYTE_BITS: u32 = row::BYTE_BITS as u32;
 
 // Document 01: the bytes of an entry, in the width of the work area's numbers.
@@ -39,6 +41,38 @@ pub struct Totals {
     pub bytes: usize,
 }
 
+// The word of a block, which stands in the work area: twice its upto, and its kind.
+#[derive(Clone, Copy)]
+pub struct Word {
+    pub number: u32,
+}
+
+impl Word {
+    // The word of a block that ends at a rank.
+    fn new(upto: usize, kind: usize) -> Word
+        requires { (upto ≤ most_steps) × (kind ≤ 1) }
+        ensures { result.number ≡ 2 * upto + kind }
+    {
+        Word {
+            number: (2 * upto + kind) as u32,
+        }
+    }
+
+    // The rank at which the block ends.
+    pub fn upto(self) -> usize
+        ensures { result ≡ self.number / 2 }
+    {
+        (self.number / 2) as usize
+    }
+
+    // Its kind.
+    pub fn kind(self) -> usize
+        ensures { result ≡ self.number % 2 }
+    {
+        (self.number % 2) as usize
+    }
+}
+
 // What a turn needs of the ranks after its own: the fewest bytes of what follows the code of its step in a block of codes; and the least Y_j,
 // with the bits that a row adds.
 #[derive(Clone, Copy)]
@@ -53,13 +87,6 @@ pub fn past_at(list: &[u32], i: usize) -> u32
     ensures { result ≡ past list.now i }
 {
     if i == 0 { 0 } else { list[i - 1] + 1 }
-}
-
-// The smaller of two numbers.
-fn smaller(a: u32, b: u32) -> u32
-    ensures { result ≡ min a b }
-{
-    if a < b { a } else { b }
 }
 
 // The bytes of a row.
@@ -77,11 +104,10 @@ fn grow(turn: Turn, codes: u32, from: u32) -> Turn
     ensures { result ≡ turned codes from turn }
 {
     Turn {
-        rest: smaller(codes, (turn.reach - from) / BYTE_BITS),
-        reach: smaller(
-            turn.reach,
-            BYTE_BITS * codes + (from + (ENTRY_BITS + ROW_BITS)),
-        ),
+        rest: codes.min((turn.reach - from) / BYTE_BITS),
+        reach: turn
+            .reach
+            .min(BYTE_BITS * codes + (from + (ENTRY_BITS + ROW_BITS))),
     }
 }
 
@@ -96,11 +122,10 @@ fn sizes(list: &[u32], work: &mut [u32])
         return;
     }
     work[n] = code::size(list[0]) as u32;
-    let mut i: usize = 1;
-    while i < n {
+    // Kept: a `from` that one turn of an `enumerate` hands to the next was tried, and such a loop is slower, since it is not vectorised.
+    for i in 1..n {
         let from = list[i - 1] + 1;
         work[n + i] = code::size(list[i] - from) as u32;
-        i += 1;
     }
 }
 
@@ -124,25 +149,150 @@ fn values(list: &[u32], work: &mut [u32])
     if n == 0 {
         return;
     }
-    let mut i = n - 1;
     let mut turn = Turn {
         rest: 0,
-        reach: list[i] + (1 + ROW_BITS),
+        reach: list[n - 1] + (1 + ROW_BITS),
     };
-    while 0 < i {
+    for i in (1..n).rev() {
         let codes = keep(work, n, i, turn.reach - ROW_BITS, turn.rest);
         turn = grow(turn, codes, list[i - 1] + 1);
-        i -= 1;
     }
     keep(work, n, 0, turn.reach - ROW_BITS, turn.rest);
 }
 
-// The fewest bytes of a row from rank i on with all the blocks after it, the row's entry aside.
-fn row_at(list: &[u32], work: &[u32], i: usize) -> u32
-    requires { Ready list.now work.now i × (i < length list.now) }
-    ensures { result ≡ row_at list.now i }
-{
-    row_size(work[i] - past_at(list, i))
+// The tail of a list from a rank on: the numbers ahead of that rank and of all later ones stand in the work area.
+#[derive(Clone, Copy)]
+struct Tail<'a> {
+    list: &'a [u32],
+    work: &'a [u32],
+    rank: usize,
+    ghost ready: { Ready list.now work.now rank } by { Ready-prop list.now work.now rank },
+    ghost within: { rank < length list.now },
+}
+
+impl Tail<'_> {
+    // The fewest bytes of a first block of codes with all the blocks after it, its entry aside.
+    fn codes(&self) -> u32
+        ensures { result ≡ codes_at self.now.list.now self.now.rank }
+    {
+        self.work[self.list.len() + self.rank]
+    }
+
+    // The fewest bytes of a first row with all the blocks after it, the row's entry aside.
+    fn row(&self) -> u32
+        ensures { result ≡ row_at self.now.list.now self.now.rank }
+    {
+        row_size(self.work[self.rank] - past_at(self.list, self.rank))
+    }
+
+    // The fewest bytes of its blocks.
+    fn bytes(&self) -> u32
+        ensures { result ≡ bytes_at self.now.list.now self.now.rank }
+    {
+        ENTRY_SIZE + self.codes().min(self.row())
+    }
+
+    // Whether a block of codes from its rank on ends at the later rank j: where a row from there on, with its entry, leads to fewer bytes than
+    // codes do.
+    fn ends_at(&self, j: usize) -> bool
+        requires { (self.now.rank < j) × (j < length self.now.list.now) }
+        ensures goes_on { result ≡ false → GoesOn self.now.list.now j }
+        ensures ends { result ≡ true → GoesOn self.now.list.now j → ⊥ }
+    {
+        let row = (self.work[j] - (self.list[j - 1] + 1) + ROW_BITS) / BYTE_BITS;
+        row < self.work[self.list.len() + j]
+    }
+
+    // Whether a block of codes ends at one of the ranks of a look from rank j on; no turn leaves the loop, so that several ranks are compared at
+    // once.
+    fn ends_within(&self, j: usize) -> bool
+        requires { (self.now.rank < j) × (j + stride ≤ length self.now.list.now) }
+        ensures { result ≡ false → AllGoOn self.now.list.now j (j + stride) }
+    {
+        let mut any = false;
+        for k in j..j + STRIDE {
+            if self.ends_at(k) {
+                any = true;
+            }
+        }
+        any
+    }
+
+    // A later rank up to which no block of codes ends.
+    fn coded(&self) -> usize
+        ensures { Scanning (GoesOn self.now.list.now) (length self.now.list.now) self.now.rank result }
+    {
+        let mut j = self.rank + 1;
+        // Kept: where the last whole look ends is the answer too, which a `for` over a `step_by` would have to work out once more.
+        while j + STRIDE <= self.list.len() {
+            if self.ends_within(j) {
+                return j;
+            }
+            j += STRIDE;
+        }
+        j
+    }
+
+    // The largest end that a best block of codes can have.
+    fn codes_end(&self) -> usize
+        ensures { CodesEnd self.now.list.now self.now.rank result }
+    {
+        for j in self.coded()..self.list.len() {
+            if self.ends_at(j) {
+                return j;
+            }
+        }
+        self.list.len()
+    }
+
+    // A later rank up to which no rank reaches beyond `top`: a later one reaches no less, so that one look passes many.
+    fn covered(&self, top: u32) -> usize
+        ensures { Covered self.now.list.now self.now.rank top result }
+    {
+        let mut j = self.rank + 1;
+        // Kept: as in `coded`.
+        while j + STRIDE <= self.list.len() {
+            if top < self.work[j + (STRIDE - 1)] {
+                return j;
+            }
+            j += STRIDE;
+        }
+        j
+    }
+
+    // The largest end of a row that, with the rest, has no more than `r` bytes besides its entry.
+    fn row_end(&self, r: u32) -> usize
+        requires { r ≤ most_ahead }
+        ensures { RowEnd self.now.list.now self.now.rank r result }
+    {
+        let top = past_at(self.list, self.rank) + BYTE_BITS * r;
+        for j in self.covered(top)..self.list.len() {
+            if top < self.work[j] {
+                return j;
+            }
+        }
+        self.list.len()
+    }
+
+    // The word of the first block of its best cut.
+    fn choice(&self) -> Word
+        ensures { Chosen self.now.list.now self.now.rank result.number }
+    {
+        let codes = self.codes();
+        let row = self.row();
+        if codes < row {
+            return Word::new(self.codes_end(), rules::CODES);
+        }
+        let upto = self.row_end(row);
+        if row < codes {
+            return Word::new(upto, rules::ROW);
+        }
+        let other = self.codes_end();
+        if other < upto {
+            return Word::new(upto, rules::ROW);
+        }
+        Word::new(other, rules::CODES)
+    }
 }
 
 // The fewest bytes of the blocks of a list.
@@ -150,127 +300,15 @@ fn fewest(list: &[u32], work: &[u32]) -> u32
     requires { Ready list.now work.now 0 }
     ensures { result ≡ bytes_at list.now 0 }
 {
-    let n = list.len();
-    if n == 0 {
+    if list.len() == 0 {
         return 0;
     }
-    ENTRY_SIZE + smaller(work[n], row_at(list, work, 0))
-}
-
-// The fewest bytes of a row from a rank on that is not the first, with its entry and all the blocks after it.
-fn row_later(list: &[u32], work: &[u32], j: usize) -> u32
-    requires { Ready list.now work.now j × (0 < j) × (j < length list.now) }
-    ensures { result ≡ entry_size + row_at list.now j }
-{
-    (work[j] - (list[j - 1] + 1) + ROW_BITS) / BYTE_BITS
-}
-
-// Whether a block of codes ends at one of the ranks of a look from rank j on; no turn leaves the loop, so that several ranks are compared at once.
-fn ends_within(list: &[u32], work: &[u32], j: usize) -> bool
-    requires { Ready list.now work.now j × (0 < j) × (j + stride ≤ length list.now) }
-    ensures { result ≡ false → AllGoOn list.now j (j + stride) }
-{
-    let n = list.len();
-    let mut any = false;
-    let end = j + STRIDE;
-    let mut k = j;
-    while k < end {
-        if row_later(list, work, k) < work[n + k] {
-            any = true;
-        }
-        k += 1;
-    }
-    any
-}
-
-// A rank after i up to which no block of codes ends.
-fn coded(list: &[u32], work: &[u32], i: usize) -> usize
-    requires { Ready list.now work.now i × (i < length list.now) }
-    ensures { Scanning (GoesOn list.now) (length list.now) i result }
-{
-    let mut j = i + 1;
-    while j + STRIDE <= list.len() {
-        if ends_within(list, work, j) {
-            return j;
-        }
-        j += STRIDE;
-    }
-    j
-}
-
-// The largest end that a best block of codes from rank i can have.
-fn codes_end(list: &[u32], work: &[u32], i: usize) -> usize
-    requires { Ready list.now work.now i × (i < length list.now) }
-    ensures { CodesEnd list.now i result }
-{
-    let mut j = coded(list, work, i);
-    while j < list.len() {
-        if row_later(list, work, j) < work[list.len() + j] {
-            return j;
-        }
-        j += 1;
-    }
-    j
-}
-
-// A rank after i up to which no rank reaches beyond `top`: a later one reaches no less, so that one look passes many.
-fn covered(list: &[u32], work: &[u32], i: usize, top: u32) -> usize
-    requires { Ready list.now work.now i × (i < length list.now) }
-    ensures { Covered list.now i top result }
-{
-    let mut j = i + 1;
-    while j + STRIDE <= list.len() {
-        if top < work[j + (STRIDE - 1)] {
-            return j;
-        }
-        j += STRIDE;
-    }
-    j
-}
-
-// The largest end of a row from rank i that, with the rest, has no more than `r` bytes besides its entry.
-fn row_end(list: &[u32], work: &[u32], i: usize, r: u32) -> usize
-    requires { Ready list.now work.now i × (i < length list.now) × (r ≤ most_ahead) }
-    ensures { RowEnd list.now i r result }
-{
-    let top = past_at(list, i) + BYTE_BITS * r;
-    let mut j = covered(list, work, i, top);
-    while j < list.len() {
-        if top < work[j] {
-            return j;
-        }
-        j += 1;
-    }
-    j
-}
-
-// The word of a block: twice its upto, and its kind.
-fn word(upto: usize, kind: usize) -> u32
-    requires { (upto ≤ most_steps) × (kind ≤ 1) }
-    ensures { result ≡ 2 * upto + kind }
-{
-    (2 * upto + kind) as u32
-}
-
-// The word of the first block of the best cut from rank i on.
-fn choice(list: &[u32], work: &[u32], i: usize) -> u32
-    requires { Ready list.now work.now i × (i < length list.now) }
-    ensures { Chosen list.now i result }
-{
-    let codes = work[list.len() + i];
-    let row = row_at(list, work, i);
-    if codes < row {
-        return word(codes_end(list, work, i), rules::CODES);
-    }
-    let upto = row_end(list, work, i, row);
-    if row < codes {
-        return word(upto, rules::ROW);
-    }
-    let other = codes_end(list, work, i);
-    if other < upto {
-        return word(upto, rules::ROW);
-    }
-    word(other, rules::CODES)
+    let all = Tail {
+        list,
+        work,
+        rank: 0,
+    };
+    all.bytes()
 }
 
 // Going forward, puts the word of each block of the best cut at i, where the block begins at rank i; gives the number of blocks.
@@ -282,10 +320,16 @@ fn marks(list: &[u32], work: &mut [u32]) -> usize
 {
     let mut blocks: usize = 0;
     let mut i: usize = 0;
+    // Kept: a turn goes on where its block ends, so that no range counts the turns.
     while i < list.len() {
-        let word = choice(list, work, i);
-        work[i] = word;
-        i = (word / 2) as usize;
+        let tail = Tail {
+            list,
+            work,
+            rank: i,
+        };
+        let word = tail.choice();
+        work[i] = word.number;
+        i = word.upto();
         blocks += 1;
     }
     blocks

@@ -5,24 +5,22 @@ use mathlib.Core.List.{List, [], ◌∷◌}
 use Prim.Native.Nat.{ℕ, ◌+◌, ◌≤◌}
 use native.Mathlib.Omega.{arith}
 use lib.ListN.{length, drop, get_or, length-append}
+use Rattle.std.specs.Prelude.{Ok, Result, Err}
 use Rattle.rules.specs.declared.Refusal.{Refusal}
 use Rattle.rules.specs.Limits.{most_steps}
 use Rattle.rules.proofs.Paper.{paper_apart, paper_values, paper_refusal}
 use Rattle.image.specs.declared.Entry.{Entry}
 use Rattle.image.specs.declared.Before.{Before}
-use Rattle.image.specs.declared.Fault.TheVariants.{Fine}
 use Rattle.image.specs.Entry.{entry_place, payload_place, entries_at, start, after_entry}
 use Rattle.image.specs.Verdict.{Verdict, taken, refused, directory_of, blocks_of, verdict}
 use Rattle.image.proofs.Directory.{directory_clean}
 use Rattle.image.proofs.Blocks.{taken_eq, split}
 use Rattle.image.proofs.Verdict.{peel}
-use Rattle.read.specs.declared.Checked.{Checked}
-use Rattle.read.specs.declared.Checked.TheVariants.{Accepted, Refused}
 use Rattle.read.specs.Read.{values, paper_of, check_paper, check_promise}
 
 -- each upto is within the limit, so the last is, which counts all steps
 few_after : (p : ℕ) (pay : List ℕ) (b : Before) (i : ℕ) (es : List Entry) (xs : List ℕ) → b.upto ≤ most_steps
-    → directory_of p b i es ≡ Fine → blocks_of pay b i es ≡ taken xs
+    → directory_of p b i es ≡ Ok tt → blocks_of pay b i es ≡ taken xs
     → b.upto + length xs ≤ most_steps
 few_after p pay b i [] xs h d t = omega (arith, ap length (taken_eq t))
 few_after p pay b i (e ∷ es) xs h d t =
@@ -55,17 +53,17 @@ pub record Yes (s : List ℕ) (n : ℕ) : Type 0 where
 pub Yes_taken : (s : List ℕ) {xs : List ℕ} {n : ℕ} → verdict s ≡ taken xs → length xs ≡ n → Yes s n
 Yes_taken s {xs} q k = record { list = xs; is = q; count = k; few = omega (arith, taken_few s q) }
 
-module _ (s : List ℕ) {r : Checked} (a : paper_of r ≡ check_promise s) where
-  pub answer_Yes : {n : ℕ} → r ≡ Accepted n → Yes s n
+module _ (s : List ℕ) {r : Result ℕ Refusal} (a : paper_of r ≡ check_promise s) where
+  pub answer_Yes : {n : ℕ} → r ≡ Ok n → Yes s n
   answer_Yes {n} e = by (verdict s) refl (ap paper_of (sym e) ∙ a)
     where
-      by : (v : Verdict) → verdict s ≡ v → paper_of (Accepted n) ≡ check_paper v → Yes s n
+      by : (v : Verdict) → verdict s ≡ v → paper_of (Ok n) ≡ check_paper v → Yes s n
       by (taken xs) q p = Yes_taken s q (sym (ap (λ (l : List ℕ). get_or l 0 0) (paper_values p)))
       by (refused t) q p = paper_apart values p
 
-  pub answer_no : {q : Refusal} → r ≡ Refused q → verdict s ≡ refused q
+  pub answer_no : {q : Refusal} → r ≡ Err q → verdict s ≡ refused q
   answer_no {q} e = by (verdict s) (ap paper_of (sym e) ∙ a)
     where
-      by : (v : Verdict) → paper_of (Refused q) ≡ check_paper v → v ≡ refused q
+      by : (v : Verdict) → paper_of (Err q) ≡ check_paper v → v ≡ refused q
       by (taken xs) p = paper_apart values (sym p)
       by (refused t) p = ap (λ (x : Refusal). refused x) (sym (paper_refusal values p))

@@ -7,6 +7,7 @@ use Prim.Native.Nat.{ℕ, ◌+◌, ◌^◌, ◌≤◌, ◌<◌}
 use native.Mathlib.Omega.{arith}
 use lib.ListN.{length, length-append}
 use lib.Seq.{sets}
+use Rattle.std.specs.Prelude.{Ok, Err}
 use Rattle.lists.specs.Parts.{part}
 use Rattle.lists.specs.Stores.{Puts}
 use Rattle.lists.proofs.Stores.{Storing, Storing_start, Storing_run, storing_end}
@@ -24,7 +25,6 @@ use Rattle.image_directory.proofs.Ahead.{left, left_start, Ahead, Ahead-start, a
 use Rattle.image_block.specs.Block.{steps_in, number_of, Sound}
 use Rattle.image_block.proofs.Numbers.{number_Good, number_wrong}
 use Rattle.image_block.proofs.Steps.{part_size, steps_good, Sound_good}
-use Rattle.read.specs.declared.Checked.TheVariants.{Accepted, Refused}
 use Rattle.read.specs.Inside.{answer_of, Ready}
 
 -- ---- checking: the answer is that on the blocks from `i` on, counted on from the upto before
@@ -45,7 +45,7 @@ Checking-start s pay m d =
 answer_prepend : (c : ℕ) (xs : List ℕ) (v : Verdict) → answer_of c (prepend xs v) ≡ answer_of (c + length xs) v
 answer_prepend c xs (taken ys) =
     let q : c + length (xs ++ ys) ≡ c + length xs + length ys = omega (arith, length-append xs ys) in
-    ap (λ (k : ℕ). Accepted k) q
+    ap (λ (k : ℕ). Ok k) q
 answer_prepend c xs (refused r) = refl
 
 module _ {s pay : List ℕ} {m : ℕ} {b : Before} {i : ℕ} (c : Checking s pay m b i) where
@@ -65,14 +65,14 @@ module _ {s pay : List ℕ} {m : ℕ} {b : Before} {i : ℕ} (c : Checking s pay
               ∙ c.answer;
         }
 
-    pub checking_halt : (n ≡ 0 → ⊥) → Refused (refusal n i) ≡ answer_of 0 (blocks_of pay start 0 (entries_at m s (entry_place 0)))
+    pub checking_halt : (n ≡ 0 → ⊥) → Err (refusal n i) ≡ answer_of 0 (blocks_of pay start 0 (entries_at m s (entry_place 0)))
     checking_halt z =
         sym (ap (answer_of b.upto) (blocks_halt s pay m b i e here h n (number_wrong b e (part pay b.end e.end) n is z))) ∙ c.answer
 
-  pub checking_end : m ≤ i → Accepted b.upto ≡ answer_of 0 (blocks_of pay start 0 (entries_at m s (entry_place 0)))
+  pub checking_end : m ≤ i → Ok b.upto ≡ answer_of 0 (blocks_of pay start 0 (entries_at m s (entry_place 0)))
   checking_end h =
       let q : b.upto ≡ b.upto + 0 = omega arith in
-      ap (λ (k : ℕ). Accepted k) q ∙ sym (ap (answer_of b.upto) (blocks_end s pay m b i (omega (arith, c.ahead.within)))) ∙ c.answer
+      ap (λ (k : ℕ). Ok k) q ∙ sym (ap (answer_of b.upto) (blocks_end s pay m b i (omega (arith, c.ahead.within)))) ∙ c.answer
 
 -- ---- storing: the steps of the blocks before `i` are stored, and those from there on are to go to `p`
 

@@ -1,20 +1,19 @@
 -- What checking an image and reading it back promise.
-use Rattle.std.specs.Prelude.{List, [], ◌∷◌, ◌++◌, ℕ, ltb, length, drop}
+use Rattle.std.specs.Prelude.{List, [], ◌∷◌, ◌++◌, ℕ, ltb, length, drop, Result, Ok, Err}
 use Rattle.lists.specs.Choice.{pick}
 use Rattle.rules.specs.Refusals.{steps_too_short, refusal}
 use Rattle.rules.specs.Paper.{Paper, accepting, refusing}
+use Rattle.rules.specs.declared.Refusal.{Refusal}
 use Rattle.image.specs.Verdict.{Verdict, taken, refused, verdict}
-use Rattle.read.specs.declared.Checked.{Checked}
-use Rattle.read.specs.declared.Checked.TheVariants.{Accepted, Refused}
 
 -- the values of an answer: the number of steps
 abbrev pub values : ℕ
 values = 1
 
 -- the numbers of each case
-abbrev pub paper_of : Checked → Paper
-paper_of (Accepted n) = accepting (n ∷ [])
-paper_of (Refused r) = refusing values r
+abbrev pub paper_of : Result ℕ Refusal → Paper
+paper_of (Ok n) = accepting (n ∷ [])
+paper_of (Err r) = refusing values r
 
 -- checking: the number of steps of an image that is taken, else its refusal
 abbrev pub check_paper : Verdict → Paper

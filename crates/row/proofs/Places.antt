@@ -1,14 +1,14 @@
 -- Laws of places: where the k-th one of a byte and the last one of a row stand, as a loop looks for them, and what stands below a bound.
 -- Assumes nothing.
 use mathlib.Core.Path.{◌≡◌, refl, sym, ap, ◌∙◌, subst}
-use mathlib.Core.List.{List, ◌++◌, append-nil}
+use mathlib.Core.List.{List, [], ◌∷◌, ◌++◌, append-nil}
 use Prim.Native.Nat.{ℕ, zero, suc, ◌+◌, ◌-◌, ◌*◌, ◌/◌, ◌%◌, ◌^◌, ◌≤◌, ◌<◌}
 use native.Mathlib.Omega.{arith}
-use lib.Pow.{pow_mono}
+use native.Mathlib.Decide.{ℕ_discrete}
 use lib.Bits.{bit_and, and_mask}
 use lib.Count.{count_leading_zeros, leading_top}
-use lib.ListN.{length, get_or, take, drop, get_or-map, get_or-eq_default}
-use lib.Seq.{length-take-le}
+use lib.ListN.{length, get_or, take, drop, length-drop, get_or-map, get_or-eq_default}
+use lib.Seq.{length-take-le, get_or-drop}
 use Rattle.lists.specs.Rising.{Rising, beyond}
 use Rattle.lists.specs.Below.{below}
 use Rattle.lists.specs.Bytes.{byte_values}
@@ -19,7 +19,7 @@ use Rattle.lists.proofs.Below.{below-append, below_reach}
 use Rattle.row.specs.Row.{byte_bits, bits_from, row_steps, kth_one}
 use Rattle.row.specs.Words.{word_bits}
 use Rattle.row.proofs.Bits.{bits_none, bits_odd, bits_even, bits_zero, by_bit, bits_moved, Rising_bits, beyond_bits, length_bits_moved, length_bits_low, below_bits, beyond_highest}
-use Rattle.row.proofs.Row.{row_left, row_split, row_turn, row_front, length_row_moved, Rising_row, beyond_row_most}
+use Rattle.row.proofs.Row.{row_none, row_cons, row_left, row_split, row_turn, length_row_moved, Rising_row, beyond_row_most}
 
 -- ---- one bit after the other
 
@@ -90,36 +90,44 @@ get_or_bits o v j h =
     ∙ get_or-map (λ (x : ℕ). o + x) bits j byte_bits
     ∙ ap (λ (n : ℕ). o + n) (sym (kth_start v j))
 
--- ---- the last one of a row, whose byte x stands before place `i`
+-- ---- the last one of a row
 
-module _ (s : List ℕ) (i x : ℕ) (p : 0 < i) (h : i ≤ length s) (e : x ≡ get_or s (i - 1) 0) where
-  row_before : row_steps 0 (take i s) ≡ row_steps 0 (take (i - 1) s) ++ bits_from byte_bits (byte_bits * (i - 1)) x
-  row_before =
-      let q : i ≡ suc (i - 1) = omega arith in
-      let z : 0 + byte_bits * (i - 1) ≡ byte_bits * (i - 1) = omega arith in
-      ap (λ (n : ℕ). row_steps 0 (take n s)) q
-      ∙ row_front 0 s (i - 1) (omega arith)
-      ∙ ap (λ (v : ℕ). row_steps 0 (take (i - 1) s) ++ bits_from byte_bits (0 + byte_bits * (i - 1)) v) (sym e)
-      ∙ ap (λ (o : ℕ). row_steps 0 (take (i - 1) s) ++ bits_from byte_bits o x) z
+-- bytes that are 0 have none
+pub row_zeros : (o : ℕ) (s : List ℕ) → ((k : ℕ) → k < length s → get_or s k 0 ≡ 0) → row_steps o s ≡ []
+row_zeros o [] z = row_none o
+row_zeros o (b ∷ bs) z =
+    row_cons o b bs
+    ∙ ap (λ (v : ℕ). bits_from byte_bits o v ++ row_steps (o + byte_bits) bs) (z 0 (omega arith))
+    ∙ ap (λ (l : List ℕ). l ++ row_steps (o + byte_bits) bs) (bits_zero byte_bits o)
+    ∙ row_zeros (o + byte_bits) bs (λ k h. z (suc k) (omega arith))
 
-  -- it has none
-  pub last_before : x ≡ 0 → row_steps 0 (take i s) ≡ row_steps 0 (take (i - 1) s)
-  last_before z =
-      row_before
-      ∙ ap (λ (v : ℕ). row_steps 0 (take (i - 1) s) ++ bits_from byte_bits (byte_bits * (i - 1)) v) z
-      ∙ ap (λ (l : List ℕ). row_steps 0 (take (i - 1) s) ++ l) (bits_zero byte_bits (byte_bits * (i - 1)))
-      ∙ append-nil (row_steps 0 (take (i - 1) s))
+-- it is in the last byte that is not 0, at place `i`
+module _ (s : List ℕ) (i : ℕ) (h : i < length s) (z : (k : ℕ) → i < k → k < length s → get_or s k 0 ≡ 0) where
+  row_last : row_steps 0 s ≡ row_steps 0 (take i s) ++ bits_from byte_bits (byte_bits * i) (get_or s i 0)
+  row_last =
+      let q : 0 + byte_bits * i ≡ byte_bits * i = omega arith in
+      let none : row_left 0 s (i + 1) ≡ [] =
+      row_zeros (0 + byte_bits * (i + 1)) (drop (i + 1) s)
+      (λ k l. get_or-drop (i + 1) s k 0 ∙ z (i + 1 + k) (omega arith) (omega (arith, length-drop (i + 1) s)))
+      in
+      row_split 0 s i (omega arith)
+      ∙ ap (λ (l : List ℕ). row_steps 0 (take i s) ++ l)
+      (row_turn 0 s i (get_or s i 0) h refl
+      ∙ ap (λ (l : List ℕ). bits_from byte_bits (0 + byte_bits * i) (get_or s i 0) ++ l) none
+      ∙ append-nil (bits_from byte_bits (0 + byte_bits * i) (get_or s i 0)))
+      ∙ ap (λ (o : ℕ). row_steps 0 (take i s) ++ bits_from byte_bits o (get_or s i 0)) q
 
-  -- it has the last one
-  pub last_here : 0 < x → x < byte_values → byte_bits * (i - 1) + word_bits - count_leading_zeros word_bits x ≡ beyond 0 (row_steps 0 (take i s))
-  last_here g l =
-      let t = leading_top word_bits x g (omega arith) in
+  pub last_here : (get_or s i 0 ≡ 0 → ⊥) → get_or s i 0 < byte_values
+      → byte_bits * (i + 1) - count_leading_zeros byte_bits (get_or s i 0) ≡ beyond 0 (row_steps 0 s)
+  last_here f l =
+      let p : 0 < get_or s i 0 = elim (ℕ_discrete (get_or s i 0) 0) [ yes e ↦ absurd (f e) | no e ↦ omega arith ] in
+      let t = leading_top byte_bits (get_or s i 0) p (omega arith) in
       let j : ℕ = t.0 in
-      let m : j < byte_bits = by_lt j byte_bits (λ k. k) (λ k. let n : 2 ^ byte_bits ≤ 2 ^ j = pow_mono k in absurd (omega (arith, t.2))) in
-      let r : beyond 0 (row_steps 0 (take i s)) ≡ byte_bits * (i - 1) + suc j =
-      ap (beyond 0) row_before
-      ∙ beyond-append 0 (row_steps 0 (take (i - 1) s)) (bits_from byte_bits (byte_bits * (i - 1)) x)
-      ∙ beyond_highest byte_bits (byte_bits * (i - 1)) (beyond 0 (row_steps 0 (take (i - 1) s))) j x m t.2 t.3
+      let m : j < byte_bits = omega (arith, t.1) in
+      let r : beyond 0 (row_steps 0 s) ≡ byte_bits * i + suc j =
+      ap (beyond 0) row_last
+      ∙ beyond-append 0 (row_steps 0 (take i s)) (bits_from byte_bits (byte_bits * i) (get_or s i 0))
+      ∙ beyond_highest byte_bits (byte_bits * i) (beyond 0 (row_steps 0 (take i s))) j (get_or s i 0) m t.2 t.3
       in
       omega (arith, t.1)
 

@@ -1,11 +1,11 @@
 -- Laws of the steps of a row: the row of two parts, a row that begins elsewhere, their order and end, and what a loop over bytes goes by.
 -- Assumes nothing.
 use mathlib.Core.Path.{◌≡◌, refl, sym, ap, ◌∙◌}
-use mathlib.Core.List.{List, [], ◌∷◌, ◌++◌, map, map-append, append-nil, append_assoc}
+use mathlib.Core.List.{List, [], ◌∷◌, ◌++◌, map, map-append, append_assoc}
 use Prim.Native.Nat.{ℕ, suc, ◌+◌, ◌-◌, ◌*◌, ◌≤◌, ◌<◌}
 use native.Mathlib.Omega.{arith}
 use lib.ListN.{length, get_or, take, drop, length-map, length-append, length-drop, take-append-drop, drop_of_length-le}
-use lib.Seq.{take-suc, take_all, length-take-le}
+use lib.Seq.{take_all, length-take-le}
 use Rattle.lists.specs.Rising.{Rising, beyond}
 use Rattle.lists.proofs.Parts.{drop_one}
 use Rattle.lists.proofs.Rising.{beyond-append, beyond-le, beyond-map}
@@ -110,17 +110,3 @@ row_turn o s i x h e =
 
 pub row_end : (o : ℕ) (s : List ℕ) (i : ℕ) → length s ≤ i → row_left o s i ≡ []
 row_end o s i h = ap (row_steps (o + byte_bits * i)) (drop_of_length-le s {i = i} h) ∙ row_none (o + byte_bits * i)
-
--- one byte fewer
-pub row_front : (o : ℕ) (s : List ℕ) (i : ℕ) → i < length s
-    → row_steps o (take (suc i) s) ≡ row_steps o (take i s) ++ bits_from byte_bits (o + byte_bits * i) (get_or s i 0)
-row_front o s i h =
-    let b : ℕ = get_or s i 0 in
-    let n : length (take i s) ≡ i = length-take-le i s (omega arith) in
-    ap (row_steps o) (take-suc s i 0 h)
-    ∙ row_append o (take i s) (b ∷ [])
-    ∙ ap (λ (k : ℕ). row_steps o (take i s) ++ row_steps (o + byte_bits * k) (b ∷ [])) n
-    ∙ ap (λ (l : List ℕ). row_steps o (take i s) ++ l)
-    (row_cons (o + byte_bits * i) b []
-    ∙ ap (λ (l : List ℕ). bits_from byte_bits (o + byte_bits * i) b ++ l) (row_none (o + byte_bits * i + byte_bits))
-    ∙ append-nil (bits_from byte_bits (o + byte_bits * i) b))

@@ -4,8 +4,9 @@ use mathlib.Core.Path.{◌≡◌, refl, sym, ap, ◌∙◌, subst}
 use mathlib.Core.List.{List, [], ◌++◌}
 use Prim.Native.Nat.{ℕ, ◌+◌, ◌-◌, ◌*◌, ◌/◌, ◌%◌, ◌≤◌, ◌<◌}
 use native.Mathlib.Omega.{arith}
-use lib.ListN.{length, get_or, take, drop, length-append, get_or-append}
-use lib.Seq.{get_or-append-add}
+use lib.ListN.{length, get_or, take, drop, length-drop, length-append, get_or-append}
+use lib.Seq.{take_all, get_or-append-add}
+use Rattle.std.specs.Simd.{first_chunks}
 use Rattle.lists.specs.Below.{below}
 use Rattle.lists.specs.Bytes.{Bytes, byte_values}
 use Rattle.rules.specs.Numbers.{little}
@@ -13,7 +14,7 @@ use Rattle.row.specs.Row.{byte_bits, bits_from, row_steps, kth_one}
 use Rattle.row.specs.Words.{word_bytes, word_bits}
 use Rattle.row.proofs.Bits.{length_bits_moved, length_bits_most, length_bits_wide}
 use Rattle.row.proofs.Row.{row_left, row_start, row_split, row_turn, row_end, length_row_moved}
-use Rattle.row.proofs.Words.{row_word}
+use Rattle.row.proofs.Words.{words_left, words_turn, word_here, words_rest}
 use Rattle.row.proofs.Places.{get_or_bits, below_whole, bound_within}
 
 -- what stands at index `k` of xs stands at index `j` of ys
@@ -74,12 +75,32 @@ module _ {xs : List ℕ} {k : ℕ} (o : ℕ) (s : List ℕ) (i : ℕ) {j : ℕ} 
         let p : ℕ = o + byte_bits * i in
         seeking_past g (bits_from byte_bits p b) (row_left o s (i + 1)) n (row_turn o s i b h e) (length_byte p b n l c) f
 
-  -- the word v at place `i` has `n` ones
-  pub Seeking_word_past : Bytes s → (v n : ℕ) → i + word_bytes ≤ length s → v ≡ little (take word_bytes (drop i s)) → n ≡ length (bits_from word_bits 0 v)
-      → n ≤ j → Seeking xs k (row_left o s (i + word_bytes)) (j - n)
-  Seeking_word_past w v n h e c f =
-      seeking_past g (bits_from word_bits (o + byte_bits * i) v) (row_left o s (i + word_bytes)) n (row_word o s w i v h e)
-      (c ∙ sym (length_bits_moved word_bits (o + byte_bits * i) v)) f
+module _ {xs : List ℕ} {k : ℕ} (o : ℕ) (s : List ℕ) {i j : ℕ} (g : Seeking xs k (words_left o s i) j) where
+  -- the word of index `i`, whose number v has `n` ones
+  module _ (w : Bytes s) (ws : List (List ℕ)) (e : ws ≡ first_chunks word_bytes (length s / word_bytes) s) (h : i < length s / word_bytes)
+      (v n : ℕ) (f : v ≡ little (get_or ws i [])) (c : n ≡ length (bits_from word_bits 0 v)) where
+    count : n ≡ length (row_steps (o + word_bits * i) (get_or ws i []))
+    count = c ∙ sym (ap length (word_here o s w ws e i h v f) ∙ length_bits_moved word_bits (o + word_bits * i) v)
+
+    pub Seeking_word_here : j < n → Seeking xs k (row_steps (o + word_bits * i) (get_or ws i [])) j
+    Seeking_word_here l = record {
+      is = seeking_here g (row_steps (o + word_bits * i) (get_or ws i [])) (words_left o s (i + 1)) n (words_turn o s w ws e i h) count l;
+      within = omega (arith, count);
+    }
+
+    pub Seeking_word_past : n ≤ j → Seeking xs k (words_left o s (i + 1)) (j - n)
+    Seeking_word_past l = seeking_past g (row_steps (o + word_bits * i) (get_or ws i [])) (words_left o s (i + 1)) n (words_turn o s w ws e i h) count l
+
+  -- the bytes that are left
+  pub Seeking_rest : Bytes s → (r : List ℕ) → r ≡ drop (length s / word_bytes * word_bytes) s → (n : ℕ) → n ≡ length s / word_bytes → i ≡ n
+      → Seeking xs k (row_steps (o + word_bits * n) r) j
+  Seeking_rest w r e n h q = seeking_same g (ap (words_left o s) q ∙ words_rest o s w r e n h)
+
+-- the bytes from a place on, as a row of its own
+pub Seeking_part : {xs : List ℕ} {k : ℕ} (o : ℕ) (s : List ℕ) (i j : ℕ) → Seeking xs k (row_left o s i) j → i ≤ length s
+    → Seeking xs k (row_steps (o + byte_bits * i) (take (length s - i) (drop i s))) j
+Seeking_part o s i j g h =
+    seeking_same g (ap (row_steps (o + byte_bits * i)) (sym (take_all (length s - i) (drop i s) (omega (arith, length-drop i s)))))
 
 -- the first step at or after x, in the byte that x falls into, where `n` ones stand before it
 pub Seeking_bound : (o : ℕ) (s : List ℕ) (x n : ℕ) → o ≤ x → below (row_steps o s) x < length (row_steps o s)

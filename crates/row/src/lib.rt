@@ -22,27 +22,21 @@ pub const WORD_BYTES: usize = 8;
 // Free: it follows from the bytes of a word. The bits of a word.
 pub const WORD_BITS: usize = 64;
 
-// Free: it follows from the bytes of a word. The values that half a word has.
-const HALF_VALUES: usize = 4294967296;
-
-// The word of eight bytes at a place, the lowest first.
-pub fn word_at(s: &[u8], at: usize) -> usize
-    requires { at + word_bytes ≤ length s.now }
-    ensures { result ≡ little (take word_bytes (drop at s.now)) }
+// The word of eight bytes, the lowest first.
+pub fn word_of(bytes: &[u8; WORD_BYTES]) -> usize
+    ensures { result ≡ little bytes.now }
 {
-    rules::number_at(s, at) + HALF_VALUES * rules::number_at(s, at + rules::NUMBER_SIZE)
+    usize::from_le_bytes(*bytes)
 }
 
-// The word of the bytes from a place on, which are fewer than eight.
-pub fn last_word(s: &[u8], at: usize) -> usize
-    requires { (at ≤ length s.now) × (length s.now < at + word_bytes) }
-    ensures { result ≡ little (drop at s.now) }
+// The word of bytes that are fewer than eight.
+pub fn last_word(s: &[u8]) -> usize
+    requires { length s.now < word_bytes }
+    ensures { result ≡ little s.now }
 {
     let mut word: usize = 0;
-    let mut i = s.len();
-    while at < i {
-        i -= 1;
-        word = rules::wide(s[i]) + BYTE_VALUES * word;
+    for byte in s.iter().rev() {
+        word = usize::from(*byte) + BYTE_VALUES * word;
     }
     word
 }
@@ -51,10 +45,10 @@ pub fn last_word(s: &[u8], at: usize) -> usize
 pub fn word(s: &[u8]) -> usize
     ensures { result ≡ little (take word_bytes s.now) }
 {
-    if s.len() < WORD_BYTES {
-        return last_word(s, 0);
+    match s.first_chunk() {
+        Some(bytes) => word_of(bytes),
+        None => last_word(s),
     }
-    word_at(s, 0)
 }
 
 // How many ones a word has.
@@ -69,14 +63,12 @@ fn ones_in(part: &[u8]) -> usize
     requires { length part.now < 2 ^ 60 }
     ensures { result ≡ length (row_steps 0 part.now) }
 {
-    let whole = part.len() / WORD_BYTES * WORD_BYTES;
-    let mut i: usize = 0;
+    let (words, rest) = part.as_chunks();
     let mut total: usize = 0;
-    while i < whole {
-        total += ones(word_at(part, i));
-        i += WORD_BYTES;
+    for word in words {
+        total += ones(word_of(word));
     }
-    total + ones(last_word(part, i))
+    total + ones(last_word(rest))
 }
 
 // How many bytes a row of a span has.
@@ -100,15 +92,10 @@ pub fn end(part: &[u8]) -> usize
     requires { length part.now < 2 ^ 32 }
     ensures { result ≡ beyond 0 (row_steps 0 part.now) }
 {
-    let mut i = part.len();
-    while 0 < i {
-        i -= 1;
-        let byte = rules::wide(part[i]);
-        if byte != 0 {
-            return BYTE_BITS * i + WORD_BITS - (usize::leading_zeros(byte) as usize);
-        }
+    match part.iter().rposition(|byte| *byte != 0) {
+        Some(i) => BYTE_BITS * (i + 1) - (part[i].leading_zeros() as usize),
+        None => 0,
     }
-    0
 }
 
 // The place of the k-th one of a byte, counted from 0, or 8 where the byte has too few.
@@ -116,17 +103,15 @@ pub fn kth(byte: usize, k: usize) -> usize
     requires { (byte < 256) × (k < 8) }
     ensures { result ≡ kth_one byte k }
 {
-    let mut at: usize = 0;
     let mut bits = byte;
     let mut left = k;
-    while at < BYTE_BITS {
+    for at in 0..BYTE_BITS {
         let bit = bits % 2;
         if left < bit {
             return at;
         }
         left -= bit;
-        bits = bits / 2;
-        at += 1;
+        bits /= 2;
     }
     BYTE_BITS
 }
@@ -139,21 +124,19 @@ pub fn one_at(place: usize) -> usize
     1 << place
 }
 
-// The step at an index of what a row has from a byte on.
-fn step_from(part: &[u8], from: usize, at: usize, k: usize) -> usize
-    requires { (from < 2 ^ 32) × ((length part.now < 2 ^ 32) × (k < length (row_steps (from + 8 * at) (drop at part.now)))) }
-    ensures { result ≡ get_or (row_steps (from + 8 * at) (drop at part.now)) k 0 }
+// The step at an index of a row, looked for byte by byte.
+fn step_from(part: &[u8], from: usize, k: usize) -> usize
+    requires { (from < 2 ^ 36) × ((length part.now < 2 ^ 32) × (k < length (row_steps from part.now))) }
+    ensures { result ≡ get_or (row_steps from part.now) k 0 }
 {
-    let mut i = at;
     let mut left = k;
-    while i < part.len() {
-        let byte = rules::wide(part[i]);
+    for (i, byte) in part.iter().enumerate() {
+        let byte = usize::from(*byte);
         let n = ones(byte);
         if left < n {
             return from + BYTE_BITS * i + kth(byte, left);
         }
         left -= n;
-        i += 1;
     }
     0
 }
@@ -163,17 +146,16 @@ pub fn step_at(part: &[u8], from: usize, k: usize) -> usize
     requires { (from < 2 ^ 32) × ((length part.now < 2 ^ 32) × (k < length (row_steps from part.now))) }
     ensures { result ≡ get_or (row_steps from part.now) k 0 }
 {
-    let mut i: usize = 0;
+    let (words, rest) = part.as_chunks();
     let mut left = k;
-    while i + WORD_BYTES <= part.len() {
-        let n = ones(word_at(part, i));
+    for (i, word) in words.iter().enumerate() {
+        let n = ones(word_of(word));
         if left < n {
-            return step_from(part, from, i, left);
+            return step_from(word, from + WORD_BITS * i, left);
         }
         left -= n;
-        i += WORD_BYTES;
     }
-    step_from(part, from, i, left)
+    step_from(rest, from + WORD_BITS * words.len(), left)
 }
 
 // How many ones of the byte that holds a place stand before it.
@@ -182,7 +164,7 @@ fn ones_under(part: &[u8], place: usize) -> usize
     ensures { (result ≡ length (bits_from (place % 8) 0 (get_or part.now (place / 8) 0))) × (result ≤ 64) }
 {
     let low = one_at(place % BYTE_BITS) - 1;
-    ones(rules::wide(part[place / BYTE_BITS]) & low)
+    ones(usize::from(part[place / BYTE_BITS]) & low)
 }
 
 // How many steps of a row stand before the first at or after x, which lies within the row.
@@ -201,5 +183,6 @@ pub fn first_at(part: &[u8], from: usize, x: usize) -> usize
     ensures { result ≡ get_or (row_steps from part.now) (below (row_steps from part.now) x) 0 }
 {
     let place = x - from;
-    step_from(part, from, place / BYTE_BITS, ones_under(part, place))
+    let at = place / BYTE_BITS;
+    step_from(&part[at..], from + BYTE_BITS * at, ones_under(part, place))
 }

@@ -7,8 +7,8 @@ ghost use Rattle.lists.specs.Stores.{Puts};
 ghost use Rattle.row.specs.Row.{row_steps};
 ghost use Rattle.row_word.specs.Groups.{group_bits, PutsLoose};
 
-use row::{BYTE_BITS, WORD_BYTES};
-use row_word::{GROUP_BITS, NEAR, PLACES};
+use row::{BYTE_BITS, WORD_BITS};
+use row_word::{GROUP_BITS, NEAR};
 
 // Free: measured; no proof depends on it. A row of fewer bytes is short.
 const SHORT: usize = 512;
@@ -22,14 +22,12 @@ fn steps_loose(part: &[u8], from: usize, out: &mut [u32], at: usize) -> usize
     requires { (from + 8 * length part.now < 2 ^ 31) × (at + length (row_steps from part.now) + group_bits ≤ length out.old) }
     ensures { PutsLoose out.old at (row_steps from part.now) out.new result }
 {
-    let places = PLACES;
-    let mut i: usize = 0;
+    let (words, rest) = part.as_chunks();
     let mut k = at;
-    while i + WORD_BYTES <= part.len() {
-        k = row_word::put_loose(&places, row::word_at(part, i), from + BYTE_BITS * i, out, k);
-        i += WORD_BYTES;
+    for (i, word) in words.iter().enumerate() {
+        k = row_word::put_loose(row::word_of(word), from + WORD_BITS * i, out, k);
     }
-    row_word::put_ones(row::last_word(part, i), from + BYTE_BITS * i, out, k)
+    row_word::put_ones(row::last_word(rest), from + WORD_BITS * words.len(), out, k)
 }
 
 // Puts the steps of a row into a buffer for a caller that knows the place after them. The four numbers that stand there are put back, once for
@@ -39,28 +37,24 @@ fn steps_before(part: &[u8], from: usize, out: &mut [u32], at: usize, end: usize
         × ((end ≡ at + length (row_steps from part.now)) × (end + group_bits ≤ length out.old)) }
     ensures { Puts out.old at (row_steps from part.now) out.new result }
 {
-    let first = out[end];
-    let second = out[end + 1];
-    let third = out[end + 2];
-    let fourth = out[end + 3];
+    let after = [out[end], out[end + 1], out[end + 2], out[end + 3]];
     let k = steps_loose(part, from, out, at);
-    row_word::put_four(first, second, third, fourth, out, end);
+    row_word::put_four(after, out, end);
     k
 }
 
 // Puts the steps of a row into a buffer word by word, where no place after the steps changes.
+// Kept: one loop for both ways would take a law of what a way leaves after the steps, which is longer than this loop.
 fn steps_exact(part: &[u8], from: usize, out: &mut [u32], at: usize) -> usize
     requires { (from + 8 * length part.now ≤ 2 ^ 32) × (at + length (row_steps from part.now) ≤ length out.old) }
     ensures { Puts out.old at (row_steps from part.now) out.new result }
 {
-    let places = PLACES;
-    let mut i: usize = 0;
+    let (words, rest) = part.as_chunks();
     let mut k = at;
-    while i + WORD_BYTES <= part.len() {
-        k = row_word::put_by_table(&places, row::word_at(part, i), from + BYTE_BITS * i, out, k);
-        i += WORD_BYTES;
+    for (i, word) in words.iter().enumerate() {
+        k = row_word::put_word(row::word_of(word), from + WORD_BITS * i, out, k);
     }
-    row_word::put_ones(row::last_word(part, i), from + BYTE_BITS * i, out, k)
+    row_word::put_ones(row::last_word(rest), from + WORD_BITS * words.len(), out, k)
 }
 
 // Puts the steps of a row into a buffer, by the faster of the two ways if the buffer has four places more.

@@ -1,16 +1,17 @@
 -- Laws of groups: the table has the places and the number of each group's ones, what is stored for a group, and for all groups of a word.
 -- Assumes nothing.
 use mathlib.Core.Path.{◌≡◌, refl, sym, ap, ◌∙◌, subst}
-use mathlib.Core.List.{List, [], ◌∷◌, ◌++◌, map, map-append, append_assoc}
+use mathlib.Core.List.{List, [], ◌∷◌, ◌++◌, map, map-append}
 use Prim.Native.Nat.{ℕ, zero, suc, ◌+◌, ◌-◌, ◌*◌, ◌/◌, ◌%◌, ◌^◌, ◌≤◌, ◌<◌}
 use native.Mathlib.Omega.{arith}
-use lib.ListN.{length, get_or, take, drop, length-map, length-drop, length-append}
-use lib.Seq.{sets, take-append-le, drop-append-add, get_or-append-add, take_all}
-use Rattle.lists.proofs.Parts.{drop_one}
+use lib.ListN.{length, get_or, length-map, length-drop, length-append}
+use lib.Seq.{sets}
 use Rattle.lists.proofs.Stores.{sets-append, sets_over}
 use Rattle.row.specs.Row.{bits_from}
 use Rattle.row.specs.Words.{word_bits}
-use Rattle.row_word.specs.Groups.{group_bits, group_values, four_places, other_places, places_of, places_from, counts_from, all_places, Loose, PutsLoose}
+use Rattle.row_word.specs.Groups.{group_bits, group_values, four_places, other_places, places_of, Loose, PutsLoose}
+use Rattle.row_word.specs.declared.Group.{Group}
+use Rattle.row_word.specs.declared.TheConstants.{GROUPS}
 use Rattle.row.proofs.Bits.{bits_none, bits_moved, bits_join, length_bits_most, length_bits_moved}
 use Rattle.row_word.proofs.Loosely.{Loosely, Loosely_start, Loosely_run, loosely_end}
 
@@ -26,89 +27,55 @@ length-places_of v =
       length_bits_most group_bits 0 v,
     )
 
-places_at : (k v m : ℕ) (more : List ℕ) → m < k → take group_bits (drop (group_bits * m) (places_from k v ++ more)) ≡ places_of (v + m)
-unfolding places_from
-places_at zero v m more h = absurd (omega arith)
-places_at (suc k) v zero more h =
-    let z : v ≡ v + 0 = omega arith in
-    ap (take group_bits) (append_assoc (places_of v) (places_from k (suc v)) more)
-    ∙ take-append-le group_bits (places_of v) (places_from k (suc v) ++ more) (omega (arith, length-places_of v))
-    ∙ take_all group_bits (places_of v) (omega (arith, length-places_of v))
-    ∙ ap places_of z
-places_at (suc k) v (suc m) more h =
-    let z : group_bits * suc m ≡ length (places_of v) + group_bits * m = omega (arith, length-places_of v) in
+-- what is to be looked up for the group `v`, and for `k` groups from it on
+group_of : ℕ → Group
+group_of v = record { places = places_of v; count = length (bits_from group_bits 0 v) }
+
+groups_from : ℕ → ℕ → List Group
+groups_from zero v = []
+groups_from (suc k) v = group_of v ∷ groups_from k (suc v)
+
+groups_at : (k v m : ℕ) (d : Group) → m < k → get_or (groups_from k v) m d ≡ group_of (v + m)
+unfolding groups_from
+groups_at zero v m d h = absurd (omega arith)
+groups_at (suc k) v zero d h = let z : v ≡ v + 0 = omega arith in ap group_of z
+groups_at (suc k) v (suc m) d h =
     let y : suc v + m ≡ v + suc m = omega arith in
-    let rest : List ℕ = places_from k (suc v) ++ more in
-    ap (λ (l : List ℕ). take group_bits (drop (group_bits * suc m) l)) (append_assoc (places_of v) (places_from k (suc v)) more)
-    ∙ ap (λ (n : ℕ). take group_bits (drop n (places_of v ++ rest))) z
-    ∙ ap (take group_bits) (drop-append-add (places_of v) rest (group_bits * m))
-    ∙ places_at k (suc v) m more (omega arith)
-    ∙ ap places_of y
+    groups_at k (suc v) m d (omega arith) ∙ ap group_of y
 
-length_places : (k v : ℕ) → length (places_from k v) ≡ group_bits * k
-unfolding places_from
-length_places zero v = refl
-length_places (suc k) v = omega (arith, length-append (places_of v) (places_from k (suc v)), length-places_of v, length_places k (suc v))
+-- it has them all
+table : GROUPS ≡ groups_from group_values 0
+unfolding groups_from group_of bits_from
+table = refl
 
-counts_at : (k v m : ℕ) → m < k → get_or (counts_from k v) m 0 ≡ length (bits_from group_bits 0 (v + m))
-unfolding counts_from
-counts_at zero v m h = absurd (omega arith)
-counts_at (suc k) v zero h =
-    let z : v ≡ v + 0 = omega arith in
-    ap (λ (u : ℕ). length (bits_from group_bits 0 u)) z
-counts_at (suc k) v (suc m) h =
-    let y : suc v + m ≡ v + suc m = omega arith in
-    counts_at k (suc v) m (omega arith) ∙ ap (λ (u : ℕ). length (bits_from group_bits 0 u)) y
-
-length_counts : (k v : ℕ) → length (counts_from k v) ≡ k
-unfolding counts_from
-length_counts zero v = refl
-length_counts (suc k) v = ap suc (length_counts k (suc v))
-
-pub table_length : (s : List ℕ) → s ≡ all_places → length s ≡ group_bits * group_values + group_values
-unfolding all_places
-table_length s e =
-    ap length e
-    ∙ length-append (places_from group_values 0) (counts_from group_values 0)
-    ∙ omega (arith, length_places group_values 0, length_counts group_values 0)
-
-four : (s : List ℕ) (i : ℕ) → i + 4 ≤ length s → take 4 (drop i s) ≡ get_or s i 0 ∷ get_or s (i + 1) 0 ∷ get_or s (i + 2) 0 ∷ get_or s (i + 3) 0 ∷ []
-four s i h =
-    let p : i + 1 + 1 ≡ i + 2 = omega arith in
-    let q : i + 2 + 1 ≡ i + 3 = omega arith in
-    ap (take 4) (drop_one s i 0 (omega arith))
-    ∙ ap (λ (r : List ℕ). get_or s i 0 ∷ take 3 r) (drop_one s (i + 1) 0 (omega arith))
-    ∙ ap (λ (n : ℕ). get_or s i 0 ∷ get_or s (i + 1) 0 ∷ take 2 (drop n s)) p
-    ∙ ap (λ (r : List ℕ). get_or s i 0 ∷ get_or s (i + 1) 0 ∷ take 2 r) (drop_one s (i + 2) 0 (omega arith))
-    ∙ ap (λ (n : ℕ). get_or s i 0 ∷ get_or s (i + 1) 0 ∷ get_or s (i + 2) 0 ∷ take 1 (drop n s)) q
-    ∙ ap (λ (r : List ℕ). get_or s i 0 ∷ get_or s (i + 1) 0 ∷ get_or s (i + 2) 0 ∷ take 1 r) (drop_one s (i + 3) 0 (omega arith))
-
--- what it has for the group `v`
-table_four : (s : List ℕ) (v : ℕ) → s ≡ all_places → v < group_values
-    → get_or s (group_bits * v) 0 ∷ get_or s (group_bits * v + 1) 0 ∷ get_or s (group_bits * v + 2) 0 ∷ get_or s (group_bits * v + 3) 0 ∷ [] ≡ places_of v
-unfolding all_places
-table_four s v e h =
+table_at : (v : ℕ) (d : Group) → v < group_values → get_or GROUPS v d ≡ group_of v
+table_at v d h =
     let z : 0 + v ≡ v = omega arith in
-    sym (four s (group_bits * v) (omega (arith, table_length s e)))
-    ∙ ap (λ (l : List ℕ). take group_bits (drop (group_bits * v) l)) e
-    ∙ places_at group_values 0 v (counts_from group_values 0) h
-    ∙ ap places_of z
+    ap (λ (l : List Group). get_or l v d) table ∙ groups_at group_values 0 v d h ∙ ap group_of z
 
--- how many ones it says that the group `v` has, wherever its first bit stands
-pub table_count : (s : List ℕ) (v o n : ℕ) → s ≡ all_places → v < group_values → n ≡ get_or s (group_bits * group_values + v) 0
-    → n ≡ length (bits_from group_bits o v)
-unfolding all_places
-table_count s v o n e h q =
-    let places : List ℕ = places_from group_values 0 in
-    let y : group_bits * group_values + v ≡ length places + v = omega (arith, length_places group_values 0) in
-    let z : 0 + v ≡ v = omega arith in
-    q
-    ∙ ap (λ (l : List ℕ). get_or l (group_bits * group_values + v) 0) e
-    ∙ ap (λ (i : ℕ). get_or (places ++ counts_from group_values 0) i 0) y
-    ∙ get_or-append-add places (counts_from group_values 0) v 0
-    ∙ counts_at group_values 0 v h
-    ∙ ap (λ (u : ℕ). length (bits_from group_bits 0 u)) z
-    ∙ sym (length_bits_moved group_bits o v)
+module _ (v : ℕ) (d : Group) (h : v < group_values) where
+  -- how many ones it says that the group has, wherever its first bit stands
+  pub table_count : (o n : ℕ) → n ≡ (get_or GROUPS v d).count → n ≡ length (bits_from group_bits o v)
+  unfolding group_of
+  table_count o n q = q ∙ ap (λ (g : Group). g.count) (table_at v d h) ∙ sym (length_bits_moved group_bits o v)
+
+  -- the four places that it has for the group
+  table_four : (w x y z : ℕ) → w ≡ get_or (get_or GROUPS v d).places 0 0 → x ≡ get_or (get_or GROUPS v d).places 1 0
+      → y ≡ get_or (get_or GROUPS v d).places 2 0 → z ≡ get_or (get_or GROUPS v d).places 3 0 → w ∷ x ∷ y ∷ z ∷ [] ≡ places_of v
+  unfolding group_of
+  table_four w x y z ew ex ey ez =
+      rw (ew, ex, ey, ez) (ap (λ (g : Group). four g.places) (table_at v d h) ∙ four_all (places_of v) (length-places_of v))
+    where
+      four : List ℕ → List ℕ
+      four l = get_or l 0 0 ∷ get_or l 1 0 ∷ get_or l 2 0 ∷ get_or l 3 0 ∷ []
+
+      four_all : (l : List ℕ) → length l ≡ 4 → four l ≡ l
+      four_all (a ∷ b ∷ c ∷ e ∷ []) n = refl
+      four_all [] n = absurd (omega arith)
+      four_all (a ∷ []) n = absurd (omega arith)
+      four_all (a ∷ b ∷ []) n = absurd (omega arith)
+      four_all (a ∷ b ∷ c ∷ []) n = absurd (omega arith)
+      four_all (a ∷ b ∷ c ∷ e ∷ f ∷ l) n = absurd (omega arith)
 
 -- ---- one group
 
@@ -136,11 +103,11 @@ Loose_junk l at vs us h rest g =
     ∙ sets_over (sets l at vs) (at + length vs) us rest (omega arith)
     ∙ sym (sets-append l at vs rest)
 
-pub group_Loose : (s : List ℕ) (v o at : ℕ) (l : List ℕ) (w x y z : ℕ) → s ≡ all_places → v < group_values → w ≡ get_or s (group_bits * v) 0
-    → x ≡ get_or s (group_bits * v + 1) 0 → y ≡ get_or s (group_bits * v + 2) 0 → z ≡ get_or s (group_bits * v + 3) 0
+pub group_Loose : (v : ℕ) (d : Group) (o at : ℕ) (l : List ℕ) (w x y z : ℕ) → v < group_values → w ≡ get_or (get_or GROUPS v d).places 0 0
+    → x ≡ get_or (get_or GROUPS v d).places 1 0 → y ≡ get_or (get_or GROUPS v d).places 2 0 → z ≡ get_or (get_or GROUPS v d).places 3 0
     → Loose l at (bits_from group_bits o v) (sets l at ((o + w) ∷ (o + x) ∷ (o + y) ∷ (o + z) ∷ []))
-group_Loose s v o at l w x y z e h ew ex ey ez =
-    let vals : w ∷ x ∷ y ∷ z ∷ [] ≡ places_of v = rw (ew, ex, ey, ez) (table_four s v e h) in
+group_Loose v d o at l w x y z h ew ex ey ez =
+    let vals : w ∷ x ∷ y ∷ z ∷ [] ≡ places_of v = table_four v d h w x y z ew ex ey ez in
     let runs : sets l at ((o + w) ∷ (o + x) ∷ (o + y) ∷ (o + z) ∷ []) ≡ sets l at (bits_from group_bits o v ++ junk o v) =
     ap (λ (m : List ℕ). sets l at (map (λ (u : ℕ). o + u) m)) vals ∙ ap (sets l at) (group_steps o v)
     in

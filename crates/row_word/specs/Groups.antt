@@ -1,5 +1,5 @@
 -- A group: four bits of a word, whose ones are looked up at once in a table and stored in four places, whatever their number is.
-use Rattle.std.specs.Prelude.{◌≡◌, List, [], ◌∷◌, ◌++◌, ℕ, zero, suc, ◌+◌, ◌≤◌, length, drop}
+use Rattle.std.specs.Prelude.{◌≡◌, List, [], ◌∷◌, ◌++◌, ℕ, ◌+◌, ◌≤◌, length, drop}
 use Rattle.std.proofs.lemmas.List.Edits.{sets}
 use Rattle.row.specs.Row.{bits_from}
 
@@ -21,20 +21,6 @@ other_places c = drop c four_places
 -- the places of the ones of a group, the lowest first, and then others up to four
 abbrev pub places_of : ℕ → List ℕ
 places_of v = bits_from group_bits 0 v ++ other_places (length (bits_from group_bits 0 v))
-
--- those of `k` groups from `v` on
-unfoldable pub places_from : ℕ → ℕ → List ℕ
-places_from zero v = []
-places_from (suc k) v = places_of v ++ places_from k (suc v)
-
--- how many ones each of these has
-unfoldable pub counts_from : ℕ → ℕ → List ℕ
-counts_from zero v = []
-counts_from (suc k) v = length (bits_from group_bits 0 v) ∷ counts_from k (suc v)
-
--- the table: the places of all groups, and then how many ones each has
-unfoldable pub all_places : List ℕ
-all_places = places_from group_values 0 ++ counts_from group_values 0
 
 -- `vs` was stored from `at` on, and the four places after it may have changed: whoever stores so many numbers there does not see it
 abbrev pub Loose : List ℕ → ℕ → List ℕ → List ℕ → Type 0

@@ -8,7 +8,8 @@ use native.Mathlib.Omega.{arith}
 use native.Mathlib.Nat.{pow-succ'}
 use native.Mathlib.Decide.{ℕ_discrete}
 use lib.Pow.{pow_mono}
-use lib.ListN.{length, get_or, set, drop, take, length-set, length-drop, take-append-drop, drop_of_length-le}
+use borrow.Rule.Slice.PartMut.{put_mid}
+use lib.ListN.{length, get_or, set, drop, take, replicate, length-set, length-drop, take-append-drop, drop_of_length-le}
 use lib.Seq.{sets, length-sets, ext_get_or, set-set, set-get_or, set_out, get_or-set_same, get_or-set_other, get_or-drop, drop-drop}
 use Rattle.lists.specs.Rising.{Rising, beyond}
 use Rattle.lists.specs.Bytes.{Bytes, byte_values}
@@ -18,9 +19,22 @@ use Rattle.lists.proofs.Rising.{Rising-beyond, Rising_back, Rising-get_or_below,
 use Rattle.lists.proofs.Members.{has-past, has_below}
 use Rattle.lists.proofs.Stores.{get_or_sets, set-sets}
 use Rattle.lists.proofs.Bytes.{Bytes-sets}
+use Rattle.rules.proofs.Numbers.{put_run}
 use Rattle.row.specs.Row.{byte_bits, bits_of, bytes_from, row_size, row_of}
 use Rattle.row_write.specs.Inside.Marks.{plus, place_of, bit_of, marked, Markable}
-use Rattle.row.proofs.Written.{bits_of_same, bits_of_none, bits_of-cons, length-bytes_from, get_or-bytes_from, length_row, Bytes_row}
+use Rattle.row.proofs.Written.{bits_of_same, bits_of_none, bits_of-cons, length-bytes_from, bytes_from_none, bytes_from_zeros, get_or-bytes_from, length_row, Bytes_row}
+
+-- ---- bytes that are 0
+
+zeros : (n o : ℕ) → replicate n 0 ≡ bytes_from n o []
+zeros zero o = sym (bytes_from_none o [])
+zeros (suc n) o = ap (λ (l : List ℕ). 0 ∷ l) (zeros n o) ∙ sym (bytes_from_zeros n o)
+
+-- the part of a buffer that was filled with them
+pub zeros_run : (l : List ℕ) (at n k : ℕ) (us : List ℕ) → us ≡ replicate k 0 → n ≡ k → at + n ≤ length l → put_mid at n l us ≡ sets l at (bytes_from k 0 [])
+zeros_run l at n k us e q r =
+    let h : n ≡ length (bytes_from k 0 []) = omega (arith, length-bytes_from k 0 []) in
+    put_run l at n us (bytes_from k 0 []) (e ∙ zeros k 0) h (omega arith)
 
 -- ---- one number more
 

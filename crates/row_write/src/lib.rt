@@ -20,7 +20,7 @@ fn add(bits: usize, out: &mut [u8], place: usize)
     requires { (place < length out.old) × (get_or out.old place 0 + bits < 256) }
     ensures { out.new ≡ plus out.old place bits }
 {
-    out[place] = (rules::wide(out[place]) + bits) as u8;
+    out[place] += bits as u8;
 }
 
 // Marks the steps from rank `i` up to another in the row that stands at `at`.
@@ -29,11 +29,9 @@ fn mark(list: &[u32], i: usize, end: usize, from: u32, out: &mut [u8], at: usize
     ensures { marked from at (drop end list.now) out.new
         ≡ marked from at (drop i list.now) out.old }
 {
-    let mut k = i;
-    while k < end {
+    for k in i..end {
         let bit = (list[k] - from) as usize;
         add(row::one_at(bit % BYTE_BITS), out, at + bit / BYTE_BITS);
-        k += 1;
     }
 }
 
@@ -69,11 +67,7 @@ fn clear(out: &mut [u8], at: usize, n: usize)
     requires { at + n ≤ length out.old }
     ensures { out.new ≡ sets out.old at (bytes_from n 0 []) }
 {
-    let mut b: usize = 0;
-    while b < n {
-        out[at + b] = 0;
-        b += 1;
-    }
+    out[at..at + n].fill(0);
 }
 
 // How many bytes the row of a rising list has.
@@ -95,12 +89,10 @@ pub fn put(list: &[u32], from: u32, out: &mut [u8], at: usize) -> usize
 {
     let bytes = size(list, from);
     clear(out, at, bytes);
-    let whole = list.len() / NEIGHBOURS * NEIGHBOURS;
-    let mut i: usize = 0;
-    while i < whole {
-        mark_eight(list, i, from, out, at);
-        i += NEIGHBOURS;
+    let eights = list.len() / NEIGHBOURS;
+    for i in 0..eights {
+        mark_eight(list, NEIGHBOURS * i, from, out, at);
     }
-    mark(list, i, list.len(), from, out, at);
+    mark(list, NEIGHBOURS * eights, list.len(), from, out, at);
     at + bytes
 }

@@ -6,7 +6,11 @@ use Prim.Native.Nat.{ℕ, zero, suc, ◌+◌, ◌*◌, ◌/◌, ◌%◌, ◌^◌
 use native.Mathlib.Omega.{arith}
 use native.Mathlib.Nat.{pow-suc, mul_comm, mul_assoc}
 use lib.ListN.{length, get_or, take, drop, length-take, length-drop, take-append-drop}
-use lib.Seq.{drop-drop, take_at}
+use borrow.Rule.Slice.PartMut.{put_mid}
+use lib.Seq.{sets, sets-eq, paste, take_all, drop-drop, take_at}
+use mir.Syntax.{w64}
+use Rattle.std.specs.Int.{to_le_bytes}
+use Rattle.std.proofs.lemmas.Slice.{put_mid-paste}
 use Rattle.lists.specs.Bytes.{Bytes, byte_values}
 use Rattle.lists.proofs.Bytes.{Bytes-nil, Bytes-cons, bytes_take, bytes_drop}
 use Rattle.lists.proofs.Parts.{drop_one}
@@ -100,3 +104,19 @@ number_four s at a b c d h ea eb ec ed =
     let l2 : little (take 2 (drop (at + 2) s)) ≡ c + byte_values * little (take 1 (drop (at + 3) s)) = rw (ec, ← p3) (little_one s (at + 2) 1 (omega arith)) in
     let l3 : little (take 1 (drop (at + 3) s)) ≡ d + byte_values * little (take 0 (drop (at + 3 + 1) s)) = rw ed (little_one s (at + 3) 0 (omega arith)) in
     omega (arith, little_one s at 3 (omega arith), l1, l2, l3, little_none (drop (at + 3 + 1) s))
+
+-- the library's bytes of a number
+pub number_bytes_eight : (n : ℕ) → take number_size (to_le_bytes w64 n) ≡ number_bytes n
+unfolding little_bytes
+number_bytes_eight n =
+    let q : n / 65536 % 256 ≡ n / 256 / 256 % 256 = omega arith in
+    let r : n / 16777216 % 256 ≡ n / 256 / 256 / 256 % 256 = omega arith in
+    rw (q, r) refl
+
+-- a part of a buffer that was written over
+pub put_run : (l : List ℕ) (at n : ℕ) (us vs : List ℕ) → us ≡ vs → n ≡ length vs → at + length vs ≤ length l → put_mid at n l us ≡ sets l at vs
+put_run l at n us vs e h r =
+    put_mid-paste at n l us vs n e refl h
+    ∙ ap (paste l at vs) h
+    ∙ ap (λ (m : List ℕ). take at l ++ m ++ drop (at + length vs) l) (take_all (length vs) vs (omega arith))
+    ∙ sym (sets-eq vs l at r)

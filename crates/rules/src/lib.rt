@@ -2,7 +2,7 @@
 
 #![tactic(auto)]
 
-ghost use Rattle.std.specs.Prelude.{◌≡◌, ◌+◌, ◌^◌, ◌≤◌, ◌<◌, min, length};
+ghost use Rattle.std.specs.Prelude.{◌≡◌, ◌+◌, ◌^◌, ◌≤◌, ◌<◌, length};
 ghost use Rattle.std.proofs.lemmas.List.Edits.{sets};
 ghost use Rattle.rules.specs.Limits.{largest_step, most_steps, no_step};
 ghost use Rattle.rules.specs.Sizes.{work_for};
@@ -90,16 +90,6 @@ pub fn no_step() -> usize
     NO_STEP
 }
 
-// The lower of two numbers.
-pub fn lower(x: usize, y: usize) -> usize
-    ensures { result ≡ min x y }
-{
-    if x < y {
-        return x;
-    }
-    y
-}
-
 // The largest number of steps of a list.
 pub fn most_steps() -> usize
     ensures { result ≡ most_steps }
@@ -126,19 +116,12 @@ pub fn refuse(number: u32, place: u32) -> Refusal
     }
 }
 
-// A byte as a number, with its bound.
-pub fn wide(x: u8) -> usize
-    ensures { (result ≡ x) × (result < 256) }
-{
-    x as usize
-}
-
 // The number of four bytes at a place.
 pub fn number_at(s: &[u8], at: usize) -> usize
     requires { at + 4 ≤ length s.now }
     ensures { (result ≡ number_at s.now at) × (result < 2 ^ 32) }
 {
-    wide(s[at]) + 256 * (wide(s[at + 1]) + 256 * (wide(s[at + 2]) + 256 * wide(s[at + 3])))
+    u32::from_le_bytes([s[at], s[at + 1], s[at + 2], s[at + 3]]) as usize
 }
 
 // Stores a number in four bytes at a place.
@@ -146,11 +129,5 @@ pub fn put_number(out: &mut [u8], at: usize, n: usize)
     requires { at + 4 ≤ length out.old }
     ensures { out.new ≡ sets out.old at (number_bytes n) }
 {
-    let second = n / 256;
-    let third = second / 256;
-    let fourth = third / 256;
-    out[at] = (n % 256) as u8;
-    out[at + 1] = (second % 256) as u8;
-    out[at + 2] = (third % 256) as u8;
-    out[at + 3] = (fourth % 256) as u8;
+    out[at..at + NUMBER_SIZE].copy_from_slice(&n.to_le_bytes()[..NUMBER_SIZE]);
 }

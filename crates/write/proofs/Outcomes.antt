@@ -5,8 +5,9 @@ use mathlib.Core.List.{List, ◌++◌}
 use Prim.Native.Nat.{ℕ, ◌+◌, ◌^◌, ◌≤◌, ◌<◌}
 use native.Mathlib.Omega.{arith}
 use borrow.Author.Tests.{lt-ltb, le-ltb}
-use lib.ListN.{length, drop, replicate}
-use lib.Seq.{sets}
+use lib.ListN.{length, take, drop, replicate}
+use lib.Seq.{sets, length-take-le}
+use Rattle.std.specs.Prelude.{Result, Ok, Err, ⊤}
 use Rattle.lists.proofs.Stores.{sets_front}
 use Rattle.rules.specs.Sizes.{number_size, work_for}
 use Rattle.rules.specs.Refusals.{work_too_short, output_too_short, refusal}
@@ -14,28 +15,25 @@ use Rattle.rules.specs.declared.Refusal.{Refusal}
 use Rattle.rules.specs.Listed.{Listed}
 use Rattle.plan.specs.declared.Totals.{Totals}
 use Rattle.plan.specs.Planned.{Planned}
-use Rattle.write_list.specs.declared.Tested.{Tested}
-use Rattle.write_list.specs.declared.Tested.TheVariants as tests
 use Rattle.write_list.specs.Tests.{test_of}
 use Rattle.write_list.proofs.Tests.{Listed-Accepted}
-use Rattle.write.specs.declared.Counted.{Counted}
-use Rattle.write.specs.declared.Counted.TheVariants.{Accepted, Refused}
 use Rattle.write.specs.Written.{image_for}
 use Rattle.write.specs.Inside.Blocks.{Marks}
 use Rattle.write.specs.Outcome.{paper_of, Outcome, stopped, unplaced, placed, placing, answer, work_after, out_after}
 use Rattle.write.specs.Promise.{on_tests, outcome, Promise}
 use Rattle.write.proofs.Written.{length-image_for, image_fits}
+use Rattle.write.specs.declared.Counted.{Counted}
 
 -- ---- by the tests
 
 module _ (xs : List ℕ) (work out : ℕ) where
-  pub outcome_refused : {r : Refusal} → test_of xs ≡ tests.Refused r → outcome xs work out ≡ stopped r
-  outcome_refused e = ap (λ (t : Tested). on_tests t xs work out) e
+  pub outcome_refused : {r : Refusal} → test_of xs ≡ Err r → outcome xs work out ≡ stopped r
+  outcome_refused e = ap (λ (t : Result ⊤ Refusal). on_tests t xs work out) e
 
   -- A LIST OF DOCUMENT 01 IS REFUSED FOR WANT OF ROOM ALONE
   module _ (l : Listed xs) where
-    outcome_listed : outcome xs work out ≡ on_tests tests.Accepted xs work out
-    outcome_listed = ap (λ (t : Tested). on_tests t xs work out) (Listed-Accepted l)
+    outcome_listed : outcome xs work out ≡ on_tests (Ok tt) xs work out
+    outcome_listed = ap (λ (t : Result ⊤ Refusal). on_tests t xs work out) (Listed-Accepted l)
 
     pub outcome_work : work < work_for (length xs) → outcome xs work out ≡ stopped (refusal work_too_short (work_for (length xs)))
     outcome_work h = outcome_listed ∙ rw (lt-ltb work (work_for (length xs)) h)
@@ -53,7 +51,7 @@ module _ (xs : List ℕ) (work out : ℕ) where
 -- ---- what the promise asks for
 
 module _ {xs work out : List ℕ} where
-  Promise_by : (o : Outcome) {r : Counted} {work' out' : List ℕ} → outcome xs (length work) (length out) ≡ o
+  Promise_by : (o : Outcome) {r : Result Counted Refusal} {work' out' : List ℕ} → outcome xs (length work) (length out) ≡ o
       → paper_of r ≡ answer o → work' ≡ work_after work o → out' ≡ out_after out o
       → Promise xs work out r work' out'
   Promise_by o e a w q =
@@ -64,9 +62,9 @@ module _ {xs work out : List ℕ} where
       }
 
   -- a refusal that changes nothing
-  pub Promise_stopped : {a : Counted} {r s : Refusal} → a ≡ Refused r → r ≡ s → outcome xs (length work) (length out) ≡ stopped s
+  pub Promise_stopped : {a : Result Counted Refusal} {r s : Refusal} → a ≡ Err r → r ≡ s → outcome xs (length work) (length out) ≡ stopped s
       → Promise xs work out a work out
-  Promise_stopped {s = s} q e o = Promise_by (stopped s) o (ap paper_of q ∙ ap (λ (t : Refusal). paper_of (Refused t)) e) refl refl
+  Promise_stopped {s = s} q e o = Promise_by (stopped s) o (ap paper_of q ∙ ap (λ (t : Refusal). paper_of (Err t)) e) refl refl
 
 -- ---- a list of document 01 whose best cut was planned in a work area that is long enough
 
@@ -82,27 +80,27 @@ module _ {xs work planned : List ℕ} {t : Totals} (p : Planned xs work planned 
       pub planned_Marks : Marks xs planned
       planned_Marks = record { listed = l; room = omega (arith, p.same); marked = p.marked }
 
-      -- and which was then cleared
-      module _ {k : ℕ} {work' : List ℕ} (e : k ≡ work_for (length xs)) (c : work' ≡ replicate k 0 ++ drop k planned) (out : List ℕ) where
-        cleared : work' ≡ replicate (work_for (length xs)) 0 ++ drop (work_for (length xs)) work
+      -- and whose front was then filled with 0
+      module _ {k : ℕ} {front : List ℕ} (e : k ≡ work_for (length xs)) (f₀ : front ≡ replicate (length (take k planned)) 0) (out : List ℕ) where
+        cleared : front ++ drop k planned ≡ replicate (work_for (length xs)) 0 ++ drop (work_for (length xs)) work
         cleared =
-            c
+            ap (λ (s : List ℕ). s ++ drop k planned) (f₀ ∙ ap (λ (n : ℕ). replicate n 0) (length-take-le k planned (omega (arith, p.same))))
             ∙ ap (λ (n : ℕ). replicate n 0 ++ drop n planned) e
             ∙ ap (λ (s : List ℕ). replicate (work_for (length xs)) 0 ++ s) p.rest
 
-        pub Promise_unplaced : {a : Counted} {out' : List ℕ} → length out < number_size + number_size + t.bytes
-            → a ≡ Refused (refusal output_too_short (number_size + number_size + t.bytes))
+        pub Promise_unplaced : {a : Result Counted Refusal} {out' : List ℕ} → length out < number_size + number_size + t.bytes
+            → a ≡ Err (refusal output_too_short (number_size + number_size + t.bytes))
             → out' ≡ out
-            → Promise xs work out a work' out'
+            → Promise xs work out a (front ++ drop k planned) out'
         Promise_unplaced h f q =
             Promise_by (unplaced xs) (outcome_unplaced xs (length work) (length out) l r (omega (arith, length_planned)))
-            (ap paper_of f ∙ ap (λ (n : ℕ). paper_of (Refused (refusal output_too_short n))) length_planned) cleared q
+            (ap paper_of f ∙ ap (λ (n : ℕ). paper_of (Err (refusal output_too_short n))) length_planned) cleared q
 
-        pub Promise_placed : {a : Counted} {out' : List ℕ} → number_size + number_size + t.bytes ≤ length out
-            → a ≡ Accepted (length xs) (number_size + number_size + t.bytes)
+        pub Promise_placed : {a : Result Counted Refusal} {out' : List ℕ} → number_size + number_size + t.bytes ≤ length out
+            → a ≡ Ok (record { steps = length xs; bytes = number_size + number_size + t.bytes })
             → out' ≡ sets out 0 (image_for xs)
-            → Promise xs work out a work' out'
+            → Promise xs work out a (front ++ drop k planned) out'
         Promise_placed h f q =
             Promise_by (placed xs) (outcome_placed xs (length work) (length out) l r (omega (arith, length_planned)))
-            (ap paper_of f ∙ ap (λ (n : ℕ). paper_of (Accepted (length xs) n)) length_planned) cleared
+            (ap paper_of f ∙ ap (λ (n : ℕ). paper_of (Ok (record { steps = length xs; bytes = n }))) length_planned) cleared
             (q ∙ sets_front out (image_for xs) (omega (arith, length_planned)))

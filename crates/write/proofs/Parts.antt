@@ -1,13 +1,12 @@
 -- Storing one block: its part by its kind, and its entry.
 -- Assumes nothing.
-use mathlib.Core.Path.{◌≡◌, refl, sym, subst}
+use mathlib.Core.Path.{◌≡◌, refl, sym}
 use mathlib.Core.List.{List, [], ◌++◌, append-nil}
-use Prim.Native.Nat.{ℕ, ◌+◌, ◌-◌, ◌/◌, ◌%◌, ◌≤◌}
+use Prim.Native.Nat.{ℕ, ◌+◌, ◌/◌, ◌%◌, ◌≤◌}
 use native.Mathlib.Omega.{arith}
-use lib.ListN.{length, get_or, set}
+use lib.ListN.{length, set}
 use lib.Seq.{sets}
 use Rattle.lists.specs.Rising.{Rising, beyond, past}
-use Rattle.lists.specs.Stores.{Puts}
 use Rattle.lists.specs.Parts.{part}
 use Rattle.lists.proofs.Ranks.{beyond-part, rising_part, past-beyond}
 use Rattle.lists.proofs.Stores.{Storing_start, Storing_one, Storing_run, storing_end}
@@ -17,11 +16,10 @@ use Rattle.rules.specs.Limits.Laws.{largest_coded}
 use Rattle.rules.proofs.Numbers.{length_little}
 use Rattle.code.specs.Code.{code_values}
 use Rattle.cut.specs.Cut.{Kind, kind_of}
-use Rattle.cut.proofs.Blocks.{number-kind_of}
 use Rattle.image.specs.declared.Entry.{Entry}
 use Rattle.image.specs.Entry.{entry_bytes}
-use Rattle.image.specs.Grammar.{bytes_of, part_of, entry_of}
-use Rattle.image.proofs.Entries.{length_entry, entry_eq}
+use Rattle.image.specs.Grammar.{bytes_of, part_of}
+use Rattle.image.proofs.Entries.{length_entry}
 use Rattle.write.specs.Inside.Blocks.{block_at, Within}
 
 module _ (xs : List ℕ) (i word : ℕ) where
@@ -44,16 +42,6 @@ module _ (xs : List ℕ) (i word : ℕ) where
   pub part_within : (k : Kind) {from : ℕ} → kind_of (word % 2) ≡ k → from ≡ past xs i
       → bytes_of k from (part xs i (word / 2)) ≡ part_of xs i (block_at word)
   part_within k h e = rw (e, ← h)
-
-  pub part_stored : (k : Kind) {from : ℕ} → kind_of (word % 2) ≡ k → from ≡ past xs i → (out : List ℕ) (at : ℕ) {next : ℕ} {out' : List ℕ}
-      → Puts out at (bytes_of k from (part xs i (word / 2))) out' next → Puts out at (part_of xs i (block_at word)) out' next
-  part_stored k h e out at {next} {out'} s = subst (λ (ns : List ℕ). Puts out at ns out' next) (part_within k h e) s
-
-  -- the entry, by the numbers that are stored
-  pub entry_within : {base p next : ℕ} → base ≤ p → next ≡ p + length (part_of xs i (block_at word))
-      → ◌≡◌ {A = Entry} (record { kind = word % 2; last = get_or xs (word / 2 - 1) 0; upto = word / 2; end = next - base })
-      (entry_of xs i (p - base) (block_at word))
-  entry_within h e = entry_eq (sym (number-kind_of (word % 2) (omega arith))) refl refl (omega arith)
 
 -- an entry's numbers, stored one after the other
 pub entry_stored : (out : List ℕ) (at : ℕ) (e : Entry) {l m n : List ℕ} → at + entry_size ≤ length out

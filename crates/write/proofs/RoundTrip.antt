@@ -7,6 +7,7 @@ use Prim.Native.Nat.{ℕ, ◌≤◌}
 use lib.ListN.{length, get_or, take, drop}
 use lib.Seq.{take_at}
 use borrow.Author.Tests.{le-ltb}
+use Rattle.std.specs.Prelude.{Ok}
 use Rattle.lists.proofs.Choice.{by_lt}
 use Rattle.rules.specs.Sizes.{work_for}
 use Rattle.rules.specs.declared.Refusal.{Refusal}
@@ -16,7 +17,6 @@ use Rattle.rules.proofs.Paper.{paper_apart, paper_values}
 use Rattle.image.specs.Verdict.{taken, verdict}
 use Rattle.read.specs.Read.{read_paper, read_promise, steps_after, read_steps}
 use Rattle.write_list.proofs.Tests.{by_tests}
-use Rattle.write.specs.declared.Counted.TheVariants.{Accepted}
 use Rattle.write.specs.Written.{Written, image_for}
 use Rattle.write.specs.Outcome.{values, stopped, placed, answer, out_after}
 use Rattle.write.specs.Promise.{outcome, Promise}
@@ -29,7 +29,7 @@ pub record Placed (xs : List ℕ) (n s : ℕ) (out : List ℕ) : Type 0 where
   pub steps : n ≡ length xs
   pub written : Written xs (take s out)
 
-module _ {xs work out : List ℕ} {n s : ℕ} {work' out' : List ℕ} (p : Promise xs work out (Accepted n s) work' out') where
+module _ {xs work out : List ℕ} {n s : ℕ} {work' out' : List ℕ} (p : Promise xs work out (Ok (record { steps = n; bytes = s })) work' out') where
   refuses : {X : Type 0} {r : Refusal} → outcome xs (length work) (length out) ≡ stopped r → X
   refuses e = paper_apart values (p.answers ∙ ap answer e)
 

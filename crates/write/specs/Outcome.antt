@@ -1,22 +1,21 @@
 -- How the writing of a list of steps ends, whoever made the list: the answer, and what the work area and the output then hold.
-use Rattle.std.specs.Prelude.{List, [], ◌∷◌, ◌++◌, ℕ, ltb, length, drop, replicate}
+use Rattle.std.specs.Prelude.{List, [], ◌∷◌, ◌++◌, ℕ, ltb, length, drop, replicate, Result, Ok, Err}
 use Rattle.lists.specs.Choice.{pick}
 use Rattle.rules.specs.Sizes.{work_for}
 use Rattle.rules.specs.Refusals.{output_too_short, refusal}
 use Rattle.rules.specs.declared.Refusal.{Refusal}
 use Rattle.rules.specs.Paper.{Paper, accepting, refusing}
-use Rattle.write.specs.declared.Counted.{Counted}
-use Rattle.write.specs.declared.Counted.TheVariants.{Accepted, Refused}
 use Rattle.write.specs.Written.{image_for}
+use Rattle.write.specs.declared.Counted.{Counted}
 
 -- the values of an answer: the number of steps, the length of the image
 abbrev pub values : ℕ
 values = 2
 
 -- the numbers of each case
-abbrev pub paper_of : Counted → Paper
-paper_of (Accepted n b) = accepting (n ∷ b ∷ [])
-paper_of (Refused r) = refusing values r
+abbrev pub paper_of : Result Counted Refusal → Paper
+paper_of (Ok c) = accepting (c.steps ∷ c.bytes ∷ [])
+paper_of (Err r) = refusing values r
 
 -- refused before anything was stored, or with a list of steps, for whose image the output has no room or has room
 pub data Outcome : Type 0 where

@@ -1,44 +1,29 @@
 // From a list of steps to its shortest image: the tests of the list, the plan of its best cut, and the blocks that the plan says, each with
-// its part of the payload and its entry. The planner leaves a word for each block in the work area: at i for the block that begins at rank i,
-// twice its upto, and one more for a row.
+// its part of the payload and its entry. The planner leaves a word for each block in the work area: at i for the block that begins at rank i.
 
 #![tactic(auto)]
 
-ghost use Rattle.std.specs.Prelude.{◌≡◌, ◌++◌, ◌+◌, ◌^◌, ◌≤◌, ◌<◌, length, drop, replicate};
+ghost use Rattle.std.specs.Prelude.{◌≡◌, ◌++◌, ◌+◌, ◌^◌, ◌≤◌, ◌<◌, length, drop};
 ghost use Rattle.std.proofs.lemmas.List.Edits.{sets};
 ghost use Rattle.lists.specs.Stores.{Puts};
 ghost use Rattle.rules.specs.Sizes.{entry_size, work_for};
-ghost use Rattle.rules.specs.Refusals.{refusal};
 ghost use Rattle.rules.specs.Listed.{Listed};
 ghost use Rattle.image.specs.Entry.{entry_bytes, payload_place};
 ghost use Rattle.image.specs.Grammar.{part_of, payload_of};
 ghost use Rattle.plan.specs.Planned.{cut_of};
-ghost use Rattle.write.specs.declared.Counted.TheVariants.{Refused};
 ghost use Rattle.write.specs.Written.{image_for};
 ghost use Rattle.write.specs.Inside.Blocks.{block_at, Within, Laid, Marks, Filled};
 ghost use Rattle.write.specs.Promise.{Promise};
 
 use image::Entry;
+use plan::Word;
 use rules::Refusal;
-use write_list::Tested;
 
-// What writing a list, or a pair of images, answers: the number of steps and the length of the image, or a refusal.
+// What writing a list, or a pair of images, leaves: the number of steps and the length of the image.
 #[derive(Clone, Copy)]
-pub enum Counted {
-    Accepted { steps: u32, bytes: u32 },
-    Refused(Refusal),
-}
-
-// The first k numbers of the work area become 0.
-fn clear(work: &mut [u32], k: usize)
-    requires { k ≤ length work.old }
-    ensures { work.new ≡ replicate k 0 ++ drop k work.old }
-{
-    let mut i: usize = 0;
-    while i < k {
-        work[i] = 0;
-        i += 1;
-    }
+pub struct Counted {
+    pub steps: u32,
+    pub bytes: u32,
 }
 
 // Puts an entry into bytes at a place.
@@ -53,14 +38,14 @@ fn put_entry(out: &mut [u8], at: usize, e: Entry)
 }
 
 // Puts the part of the block that begins at rank i, and that the word says, into bytes from a place on, and gives the place after it.
-fn put_part(list: &[u32], i: usize, word: usize, out: &mut [u8], at: usize) -> usize
-    requires { Within list.now i word × (at + length (part_of list.now i (block_at word)) ≤ length out.old) }
-    ensures { Puts out.old at (part_of list.now i (block_at word)) out.new result }
+fn put_part(list: &[u32], i: usize, word: Word, out: &mut [u8], at: usize) -> usize
+    requires { Within list.now i word.number × (at + length (part_of list.now i (block_at word.number)) ≤ length out.old) }
+    ensures { Puts out.old at (part_of list.now i (block_at word.number)) out.new result }
 {
-    let upto = word / 2;
+    let upto = word.upto();
     let steps = &list[i..upto];
     let from = plan::past_at(list, i);
-    if word % 2 == rules::CODES {
+    if word.kind() == rules::CODES {
         return codes_write::put(steps, from, out, at);
     }
     row_write::put(steps, from, out, at)
@@ -71,20 +56,20 @@ fn put_part(list: &[u32], i: usize, word: usize, out: &mut [u8], at: usize) -> u
 fn put_block(
     list: &[u32],
     i: usize,
-    word: usize,
+    word: Word,
     base: usize,
     out: &mut [u8],
     at: usize,
     p: usize,
 ) -> usize
-    requires within { Within list.now i word × (at + entry_size ≤ length out.old) × (base ≤ p) }
-    requires word_in_bounds { p + length (part_of list.now i (block_at word)) ≤ length out.old }
-    ensures { Laid list.now i word base out.old at p out.new result }
+    requires within { Within list.now i word.number × (at + entry_size ≤ length out.old) × (base ≤ p) }
+    requires word_in_bounds { p + length (part_of list.now i (block_at word.number)) ≤ length out.old }
+    ensures { Laid list.now i word.number base out.old at p out.new result }
 {
     let next = put_part(list, i, word, out, p);
-    let upto = word / 2;
+    let upto = word.upto();
     let e = Entry {
-        kind: word % 2,
+        kind: word.kind(),
         last: list[upto - 1] as usize,
         upto,
         end: next - base,
@@ -103,11 +88,12 @@ fn put_blocks(list: &[u32], work: &[u32], m: usize, out: &mut [u8]) -> usize
     let mut i: usize = 0;
     let mut at = rules::NUMBER_SIZE;
     let mut p = base;
+    // Kept: a turn goes on where its block ends, so that no range counts the turns.
     while i < list.len() {
-        let word = work[i] as usize;
+        let word = Word { number: work[i] };
         p = put_block(list, i, word, base, out, at, p);
         at += rules::ENTRY_SIZE;
-        i = word / 2;
+        i = word.upto();
     }
     p
 }
@@ -123,16 +109,8 @@ fn put_image(list: &[u32], work: &[u32], m: usize, out: &mut [u8])
     rules::put_number(out, at, end - at - rules::NUMBER_SIZE);
 }
 
-// A refusal at a place.
-fn refuse(number: u32, place: usize) -> Counted
-    requires { place < 2 ^ 32 }
-    ensures { result ≡ Refused (refusal number place) }
-{
-    Counted::Refused(rules::refuse(number, place as u32))
-}
-
 // Writes the shortest image of a list that stands the tests, with a work area that is long enough, to the front of the output.
-pub fn write_listed(list: &[u32], work: &mut [u32], out: &mut [u8]) -> Counted
+pub fn write_listed(list: &[u32], work: &mut [u32], out: &mut [u8]) -> Result<Counted, Refusal>
     requires { Listed list.now × (work_for (length list.now) ≤ length work.old) }
     ensures { Promise list.now work.old out.old result work.new out.new }
 {
@@ -141,30 +119,25 @@ pub fn write_listed(list: &[u32], work: &mut [u32], out: &mut [u8]) -> Counted
     let bytes = 2 * rules::NUMBER_SIZE + totals.bytes;
     let answer = if bytes <= out.len() {
         put_image(list, work, totals.blocks, out);
-        Counted::Accepted {
+        Ok(Counted {
             steps: n as u32,
             bytes: bytes as u32,
-        }
+        })
     } else {
-        refuse(rules::OUTPUT_TOO_SHORT, bytes)
+        Err(rules::refuse(rules::OUTPUT_TOO_SHORT, bytes as u32))
     };
-    clear(work, rules::work_for(n));
+    work[..rules::work_for(n)].fill(0);
     answer
 }
 
 // Writes the shortest image of a list to the front of the output.
-pub fn write(list: &[u32], work: &mut [u32], out: &mut [u8]) -> Counted
+pub fn write(list: &[u32], work: &mut [u32], out: &mut [u8]) -> Result<Counted, Refusal>
     ensures { Promise list.now work.old out.old result work.new out.new }
 {
-    let t = write_list::test(list);
-    match t {
-        Tested::Refused(r) => Counted::Refused(r),
-        Tested::Accepted => {
-            let need = rules::work_for(list.len());
-            if work.len() < need {
-                return refuse(rules::WORK_TOO_SHORT, need);
-            }
-            write_listed(list, work, out)
-        }
+    write_list::test(list)?;
+    let need = rules::work_for(list.len());
+    if work.len() < need {
+        return Err(rules::refuse(rules::WORK_TOO_SHORT, need as u32));
     }
+    write_listed(list, work, out)
 }

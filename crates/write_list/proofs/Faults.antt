@@ -120,29 +120,13 @@ module _ (xs : List ℕ) where
   pub fall_below : (k : ℕ) → k < first_fall xs → past xs k ≤ get_or xs k 0
   fall_below k h = ltb-false _ _ (first_below falls xs k h)
 
-  -- the first step rises
-  pub rise_none : Passed falls xs 1
-  rise_none zero h = le-ltb (get_or xs 0 0) 0 (omega arith)
-  rise_none (suc k) h = absurd (omega arith)
+  -- where a search for a fall ends, and one for a step above the largest
+  pub rise_halt : {i : ℕ} → 0 < i → Passed falls xs i → i < length xs → get_or xs i 0 ≤ get_or xs (i - 1) 0 → first_fall xs ≡ i
+  rise_halt {i} some p l h =
+      first_halt falls xs i p l (lt-ltb (get_or xs i 0) (past xs i) (omega (arith, past_suc xs i (λ z. omega arith))))
 
-  -- one step more that rises, and one that does not
-  module _ {i : ℕ} (some : 0 < i) (p : Passed falls xs i) where
-    pub rise_more : get_or xs (i - 1) 0 < get_or xs i 0 → Passed falls xs (i + 1)
-    rise_more h =
-        below_more (λ (k : ℕ). falls (past xs k) (get_or xs k 0) ≡ false) i p
-        (le-ltb (get_or xs i 0) (past xs i) (omega (arith, past_suc xs i (λ z. omega arith))))
-
-    pub rise_halt : i < length xs → get_or xs i 0 ≤ get_or xs (i - 1) 0 → first_fall xs ≡ i
-    rise_halt l h =
-        first_halt falls xs i p l (lt-ltb (get_or xs i 0) (past xs i) (omega (arith, past_suc xs i (λ z. omega arith))))
-
-  -- one step more that is not above the largest, and one that is
-  module _ {i : ℕ} (p : Passed above xs i) where
-    pub small_more : get_or xs i 0 ≤ largest_step → Passed above xs (i + 1)
-    small_more h = below_more (λ (k : ℕ). above (past xs k) (get_or xs k 0) ≡ false) i p (le-ltb largest_step (get_or xs i 0) h)
-
-    pub small_halt : i < length xs → largest_step < get_or xs i 0 → first_above xs ≡ i
-    small_halt l h = first_halt above xs i p l (lt-ltb largest_step (get_or xs i 0) h)
+  pub small_halt : {i : ℕ} → Passed above xs i → i < length xs → largest_step < get_or xs i 0 → first_above xs ≡ i
+  small_halt {i} p l h = first_halt above xs i p l (lt-ltb largest_step (get_or xs i 0) h)
 
   -- the steps before a fall rise
   rising_below : (f d k : ℕ) → Passed falls xs f → k + d < f → get_or xs k 0 ≤ get_or xs (k + d) 0

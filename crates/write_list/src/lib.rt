@@ -10,24 +10,15 @@ ghost use Rattle.write_list.specs.Inside.Passed.{Passed};
 
 use rules::Refusal;
 
-// What testing a list answers: that it is one of document 01's, or a refusal.
-#[derive(Clone, Copy)]
-pub enum Tested {
-    Accepted,
-    Refused(Refusal),
-}
-
 // Whether each step is above its forerunner; no turn leaves the loop, so that several steps are compared at once.
 fn rises(list: &[u32]) -> bool
     ensures { result ≡ true → Passed falls list.now (length list.now) }
 {
     let mut all = true;
-    let mut i: usize = 1;
-    while i < list.len() {
+    for i in 1..list.len() {
         if list[i] <= list[i - 1] {
             all = false;
         }
-        i += 1;
     }
     all
 }
@@ -39,12 +30,10 @@ fn first_fall(list: &[u32]) -> usize
     if rises(list) {
         return list.len();
     }
-    let mut i: usize = 1;
-    while i < list.len() {
+    for i in 1..list.len() {
         if list[i] <= list[i - 1] {
             return i;
         }
-        i += 1;
     }
     list.len()
 }
@@ -69,31 +58,29 @@ fn first_above(list: &[u32], fall: usize) -> usize
     ensures { result ≡ first_above list.now }
 {
     let top = rules::largest_step();
-    let mut i = small_below(list, fall);
-    while i < list.len() {
+    for i in small_below(list, fall)..list.len() {
         if top < list[i] {
             return i;
         }
-        i += 1;
     }
-    i
+    list.len()
 }
 
 // Whether a list is one of document 01's, and which refusal comes first where it is not.
-pub fn test(list: &[u32]) -> Tested
+pub fn test(list: &[u32]) -> Result<(), Refusal>
     ensures { result ≡ test_of list.now }
 {
     let n = list.len();
     if n > rules::most_steps() {
-        return Tested::Refused(rules::refuse(rules::TOO_MANY_STEPS, 0));
+        return Err(rules::refuse(rules::TOO_MANY_STEPS, 0));
     }
     let fall = first_fall(list);
     let above = first_above(list, fall);
     if above < n {
-        return Tested::Refused(rules::refuse(rules::STEP_TOO_LARGE, above as u32));
+        return Err(rules::refuse(rules::STEP_TOO_LARGE, above as u32));
     }
     if fall < n {
-        return Tested::Refused(rules::refuse(rules::NOT_INCREASING, fall as u32));
+        return Err(rules::refuse(rules::NOT_INCREASING, fall as u32));
     }
-    Tested::Accepted
+    Ok(())
 }

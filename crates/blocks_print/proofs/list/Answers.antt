@@ -3,4 +3,4 @@ use Rattle.blocks_lines.proofs.FirstLine.{contents_taken}
 use Rattle.blocks_print.proofs.list.Goals as goal
 
 pub print_lines-requires : goal.print_lines-requires
-print_lines-requires g c = contents_taken c.args.image.now c.contents_of.ensures c.in-Holds.is
+print_lines-requires g c = contents_taken c.args.image.now c.contents_of.ensures c.in-Ok.is

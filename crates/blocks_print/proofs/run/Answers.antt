@@ -11,14 +11,14 @@ returns-then-n-gt-LONGEST g c =
     let n = c.in_ok-n.n in
     let s = c.fill.new.buffer in
     let read = length-take-le n s c.in_ok-n.ensures.within in
-    on_ok_weaker c.write_all.result
+    on_ok_weaker c.writeln.result
     (λ last. (
       take n s,
-      reports_long (g.W.Write.contents c.args.out.now) (g.W.Write.contents c.write_all.new.self) (take n s)
+      reports_long (g.W.Write.contents c.args.out.now) (g.W.Write.contents c.writeln.new.self) (take n s)
           (omega (arith, c.if-n-gt-LONGEST.true, read)) last,
       front_of (g.R.Read.remaining c.args.from.now) n 65537 s c.fill.auto.buffer c.in_ok-n.ensures.front,
     ))
-    c.write_all.ensures.bytes
+    c.writeln.ensures.bytes
 
 pub returns : goal.returns
 returns g c =

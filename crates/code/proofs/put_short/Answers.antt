@@ -3,6 +3,7 @@ use mathlib.Core.Path.{◌≡◌}
 use mathlib.Core.List.{List}
 use Prim.Native.Nat.{ℕ, ◌+◌, ◌/◌, ◌%◌, ◌<◌}
 use native.Mathlib.Omega.{arith}
+use borrow.Author.Rules.{rules}
 use native.Mathlib.Numerals.{add-one}
 use lib.ListN.{set, length-set}
 use lib.Seq.{sets, set-set}
@@ -11,7 +12,7 @@ use Rattle.code.specs.Code.{one_group, two_groups, flag, code_of, code_size}
 use Rattle.code.specs.Code.Inside.{code_one_byte, code_two_bytes, size_one, size_two}
 use Rattle.code.proofs.Laws.{length_code}
 use Rattle.code.proofs.put_short.Goals as goal
-use Rattle.code.proofs.put_short.Goals.{After-some}
+use Rattle.code.proofs.put_short.Goals.{After-from}
 
 -- `m` bytes stand before the last
 module _ (x m : ℕ) (l : x < two_groups) (e : (x / one_group ≡ 0 → m ≡ 0) × (0 < x / one_group → m ≡ 1)) where
@@ -31,23 +32,21 @@ module _ (x m : ℕ) (l : x < two_groups) (e : (x / one_group ≡ 0 → m ≡ 0)
       let p : at + m ≡ at + 1 = omega (arith, e.1 (omega arith)) in
       rw (p, add-one at, code_two_bytes x h l))
 
-size_is : (c : After-some) → code_size c.args.x ≡ c.some.result + 1
-size_is c = size-short c.args.x c.some.result c.requires.0 c.some.ensures
+-- 1 more byte where the number has a second group
+more : (c : After-from) → (c.args.x / one_group ≡ 0 → c.from.result ≡ 0) × (0 < c.args.x / one_group → c.from.result ≡ 1)
+more c = search rules
 
-pub overflow_add-last : goal.overflow_add-last
-overflow_add-last c = omega (arith, size_is c)
+size_is : (c : After-from) → code_size c.args.x ≡ c.from.result + 1
+size_is c = size-short c.args.x c.from.result c.requires.0 (more c)
 
 pub bounds-out-at : goal.bounds-out-at
-bounds-out-at c = omega (arith, size_is c)
+bounds-out-at c = omega (arith, size_is (goal.at.bounds-out-at c).After-from)
 
 pub bounds-out-last : goal.bounds-out-last
-bounds-out-last c = simp length-set (omega (arith, size_is c))
-
-pub overflow_add-result : goal.overflow_add-result
-overflow_add-result c = omega (arith, size_is c)
+bounds-out-last c = simp length-set (omega (arith, size_is (goal.at.bounds-out-last c).After-from))
 
 pub returns : goal.returns
 returns c = record {
   place = omega (arith, size_is c, length_code c.args.x);
-  stores = stored_short c.args.x c.some.result c.requires.0 c.some.ensures c.args.out.now c.args.at;
+  stores = stored_short c.args.x c.from.result c.requires.0 (more c) c.args.out.now c.args.at;
 }

@@ -1,19 +1,24 @@
 -- `code::short` meets its contract: the value of two bytes where the first has the flag, else of one. Assumes nothing.
 use mathlib.Core.Path.{◌≡◌, refl, sym, ap, ◌∙◌, subst}
-use Prim.Native.Nat.{ℕ, ◌/◌}
-use Rattle.code.specs.Code.{flag}
+use Prim.Native.Nat.{ℕ, ◌+◌, ◌*◌, ◌/◌, ◌%◌, ◌<◌}
+use native.Mathlib.Omega.{arith}
+use Rattle.code.specs.Code.{one_group, flag}
 use Rattle.code.specs.Flagged.{kept}
 use Rattle.code.specs.Fronts.{Brief}
 use Rattle.code.proofs.Fronts.{brief}
 use Rattle.code.proofs.short.Goals as goal
+use Rattle.code.proofs.short.Goals.{then-flagged-eq0, else-flagged-eq0}
 
 pub returns : goal.returns
-returns c = let kept-both : c.kept-2.result ≡ kept c.wide-first.result (kept c.wide-second.result 1) =
-    c.kept-2.ensures.0
-    ∙ ap (kept c.args.a) c.kept.ensures.0
-    ∙ ap (λ (z : ℕ). kept z (kept c.args.b 1)) (sym c.wide-first.ensures.0)
-    ∙ ap (λ (z : ℕ). kept c.wide-first.result (kept z 1)) (sym c.wide-second.ensures.0)
+returns c =
+    let a = c.args.a in
+    let b = c.args.b in
+    let v = c.if-flagged-eq0.result in
+    let one : a / flag ≡ 0 → v ≡ a =
+    λ z. elim c.if-flagged-eq0.branch [ then-flagged-eq0 w ↦ omega (arith, w.result-is, c.from-first.ensures) | else-flagged-eq0 w ↦ absurd (omega (arith, w.if-flagged-eq0, c.from-first.ensures)) ]
     in
-    subst (λ (z : ℕ). Brief z c.args.b c.chosen.result (c.wide-first.result / flag) c.kept-2.result) c.wide-first.ensures.0
-    (subst (λ (z : ℕ). Brief c.wide-first.result z c.chosen.result (c.wide-first.result / flag) c.kept-2.result) c.wide-second.ensures.0
-    (brief c.wide-first.result c.wide-second.result c.chosen.result (c.wide-first.result / flag) c.kept-2.result c.wide-first.ensures.1 c.wide-second.ensures.1 c.chosen.ensures.0 c.chosen.ensures.1 refl kept-both))
+    let two : 0 < a / flag → v ≡ a % one_group * one_group + b =
+    λ z. elim c.if-flagged-eq0.branch [ then-flagged-eq0 w ↦ absurd (omega (arith, w.if-flagged-eq0, c.from-first.ensures)) | else-flagged-eq0 w ↦ omega (arith, w.result-is, c.from-first.ensures, c.from-second.ensures) ]
+    in
+    brief a b v (c.from-first.result / flag) c.kept-2.result (omega arith) (omega arith) one two (ap (λ (x : ℕ). x / flag) c.from-first.ensures)
+    (c.kept-2.ensures.0 ∙ ap (kept a) c.kept.ensures.0)

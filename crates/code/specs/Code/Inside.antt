@@ -1,5 +1,5 @@
 -- The code by the size of the number, and its reading byte by byte. For this crate's own functions, and for nothing else.
-use Rattle.std.specs.Prelude.{◌≡◌, List, [], ◌∷◌, drop}
+use Rattle.std.specs.Prelude.{◌≡◌, List, [], ◌∷◌, drop, Ok, Err}
 use Rattle.std.proofs.Common.{sym, ◌∙◌, arith, drop_of_length-le, lt-ltb, le-ltb, eq-eqb, ne_eqb}
 use Rattle.std.proofs.Math.Path.{ap}
 use Prim.Native.Nat.{ℕ, zero, suc, ◌+◌, ◌-◌, ◌*◌, ◌/◌, ◌%◌, ◌≤◌, ◌<◌}
@@ -7,8 +7,7 @@ use Rattle.std.proofs.Math.ListN.{length}
 use Rattle.lists.proofs.Choice.{pick_yes, pick_no}
 use Rattle.lists.proofs.Parts.{drop_run}
 use Rattle.code.specs.declared.Flaw.TheVariants.{Padded, Long, Cut}
-use Rattle.code.specs.declared.Reading.TheVariants.{Code, Bad}
-use Rattle.code.specs.Code.Open.{one_group, two_groups, three_groups, flag, code_of, code_size, more, first, read_at}
+use Rattle.code.specs.Code.Open.{one_group, two_groups, three_groups, flag, code_of, code_size, more, first, reading, read_at}
 
 -- ---- the code by the size of the number
 
@@ -64,7 +63,7 @@ module _ (x : ℕ) where
 
 -- ---- what is read, byte by byte
 
-more_last : (k at h b : ℕ) (t : List ℕ) → b < flag → more k at h (b ∷ t) ≡ Code (h * one_group + b) (at + 1)
+more_last : (k at h b : ℕ) (t : List ℕ) → b < flag → more k at h (b ∷ t) ≡ Ok (reading (h * one_group + b) (at + 1))
 unfolding more
 more_last zero at h b t g = pick_yes _ _ _ (lt-ltb b flag g)
 more_last (suc k) at h b t g = pick_yes _ _ _ (lt-ltb b flag g)
@@ -74,11 +73,11 @@ pub record Reached (s : List ℕ) (at k p h : ℕ) : Type 0 where
   is : read_at s at ≡ more k p h (drop p s)
 
 module _ (s : List ℕ) (at : ℕ) where
-  pub read_none : length s ≤ at → read_at s at ≡ Bad Cut
+  pub read_none : length s ≤ at → read_at s at ≡ Err Cut
   unfolding read_at first
   read_none h = ap (first at) (drop_of_length-le s h)
 
-  pub read_padded : {b : ℕ} {t : List ℕ} → drop at s ≡ b ∷ t → b ≡ flag → read_at s at ≡ Bad Padded
+  pub read_padded : {b : ℕ} {t : List ℕ} → drop at s ≡ b ∷ t → b ≡ flag → read_at s at ≡ Err Padded
   unfolding read_at first
   read_padded {b} e h = ap (first at) e ∙ pick_yes _ _ _ (eq-eqb b flag h)
 
@@ -91,17 +90,17 @@ pub reached_as : {s : List ℕ} {at k k' p p' h h' : ℕ} → Reached s at k p h
 reached_as r ek ep eh = rw (ek, ep, eh) r
 
 module _ {s : List ℕ} {at k p h : ℕ} where
-  pub read_cut : Reached s at k p h → length s ≤ p → read_at s at ≡ Bad Cut
+  pub read_cut : Reached s at k p h → length s ≤ p → read_at s at ≡ Err Cut
   unfolding more
   read_cut r l = r.is ∙ ap (more k p h) (drop_of_length-le s l)
 
 module _ {s : List ℕ} {at p h b : ℕ} {t : List ℕ} (e : drop p s ≡ b ∷ t) where
-  pub read_last : {k v n : ℕ} → Reached s at k p h → b < flag → v ≡ h * one_group + b → n ≡ p + 1 → read_at s at ≡ Code v n
+  pub read_last : {k v n : ℕ} → Reached s at k p h → b < flag → v ≡ h * one_group + b → n ≡ p + 1 → read_at s at ≡ Ok (reading v n)
   read_last {k} {v} {n} r g ev en =
-      let c : Code (h * one_group + b) (p + 1) ≡ Code v n = cc in
+      let c : Ok (reading (h * one_group + b) (p + 1)) ≡ Ok (reading v n) = cc in
       r.is ∙ ap (more k p h) e ∙ more_last k p h b t g ∙ c
 
-  pub read_long : Reached s at zero p h → flag ≤ b → read_at s at ≡ Bad Long
+  pub read_long : Reached s at zero p h → flag ≤ b → read_at s at ≡ Err Long
   unfolding more
   read_long r g = r.is ∙ ap (more zero p h) e ∙ pick_no _ _ _ (le-ltb b flag g)
 

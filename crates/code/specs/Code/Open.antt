@@ -1,9 +1,9 @@
 -- The definitions of the byte code, open: for this crate's own laws and for worked examples, and for nothing else.
-use Rattle.std.specs.Prelude.{List, [], ◌∷◌, ℕ, zero, suc, ◌+◌, ◌-◌, ◌*◌, ◌/◌, ◌%◌, ltb, eqb, length, drop}
+use Rattle.std.specs.Prelude.{List, [], ◌∷◌, ℕ, zero, suc, ◌+◌, ◌-◌, ◌*◌, ◌/◌, ◌%◌, ltb, eqb, length, drop, Result, Ok, Err}
 use Rattle.lists.specs.Choice.{pick}
+use Rattle.code.specs.declared.Flaw.{Flaw}
 use Rattle.code.specs.declared.Flaw.TheVariants.{Padded, Long, Cut}
 use Rattle.code.specs.declared.Reading.{Reading}
-use Rattle.code.specs.declared.Reading.TheVariants.{Code, Bad}
 
 -- the values of a group of seven bits, of two groups and of three
 abbrev pub one_group : ℕ
@@ -35,17 +35,21 @@ code_of x =
 unfoldable pub code_size : ℕ → ℕ
 code_size x = length (code_of x)
 
+-- a value with the place after its code
+abbrev pub reading : ℕ → ℕ → Reading
+reading x n = record { value = x; next = n }
+
 -- the groups so far are worth `h`: a byte without the flag ends the code, after one with it as many as `k` more may follow
-unfoldable pub more : ℕ → ℕ → ℕ → List ℕ → Reading
-more k at h [] = Bad Cut
-more zero at h (b ∷ t) = pick (ltb b flag) (Code (h * one_group + b) (at + 1)) (Bad Long)
-more (suc k) at h (b ∷ t) = pick (ltb b flag) (Code (h * one_group + b) (at + 1)) (more k (at + 1) (h * one_group + (b - flag)) t)
+unfoldable pub more : ℕ → ℕ → ℕ → List ℕ → Result Reading Flaw
+more k at h [] = Err Cut
+more zero at h (b ∷ t) = pick (ltb b flag) (Ok (reading (h * one_group + b) (at + 1))) (Err Long)
+more (suc k) at h (b ∷ t) = pick (ltb b flag) (Ok (reading (h * one_group + b) (at + 1))) (more k (at + 1) (h * one_group + (b - flag)) t)
 
 -- a code does not start with 80 hex, the flag alone, and has no fifth byte
-unfoldable pub first : ℕ → List ℕ → Reading
-first at [] = Bad Cut
-first at (b ∷ t) = pick (eqb b flag) (Bad Padded) (more 3 at 0 (b ∷ t))
+unfoldable pub first : ℕ → List ℕ → Result Reading Flaw
+first at [] = Err Cut
+first at (b ∷ t) = pick (eqb b flag) (Err Padded) (more 3 at 0 (b ∷ t))
 
 -- what stands at a place: a value with the place after its code, or why there is none
-unfoldable pub read_at : List ℕ → ℕ → Reading
+unfoldable pub read_at : List ℕ → ℕ → Result Reading Flaw
 read_at s at = first at (drop at s)

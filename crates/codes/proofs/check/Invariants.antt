@@ -7,12 +7,12 @@ use Rattle.code.specs.Code.{code_values}
 use Rattle.codes.specs.Codes.{steps_from, tally_of}
 use Rattle.codes.proofs.check.Given as goal
 
-abbrev pub invariant-loop-at : goal.invariant-loop-at
-invariant-loop-at l =
+abbrev pub invariant-loop-t : goal.invariant-loop-t
+invariant-loop-t l =
     (l.at ≤ length l.part)
     × (tally_of 0 l.from (steps_from l.from l.part 0) ≡ tally_of l.count l.next (steps_from l.next l.part l.at))
     × (l.next ≤ 2 ^ 32 + l.at * code_values)
     × (l.count ≤ l.at)
 
-abbrev pub decreases-loop-at : goal.decreases-loop-at
-decreases-loop-at l = length l.part - l.at
+abbrev pub decreases-loop-t : goal.decreases-loop-t
+decreases-loop-t l = length l.part - l.at

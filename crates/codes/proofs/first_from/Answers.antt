@@ -1,45 +1,43 @@
 -- `codes::first_from` meets its contract. The invariant: `index` steps were passed, which are below x, and what is looked for is found among
--- those from `at` on.
+-- those that are left.
 -- Assumes nothing.
-use mathlib.Core.Path.{refl, sym, ap, ◌∙◌}
+use mathlib.Core.Path.{sym, ap, ◌∙◌}
 use mathlib.Core.List.{List}
 use Prim.Native.Nat.{ℕ}
 use native.Mathlib.Omega.{arith}
 use Rattle.lists.specs.Below.{below}
-use Rattle.lists.proofs.Below.{below-nil, below-here, below-past}
+use Rattle.lists.proofs.Below.{below-nil, below-here, below-past, below-le}
+use Rattle.codes.specs.Codes.{steps_from, list_of}
 use Rattle.codes.proofs.Finding.{found_none, found_here, found_past}
-use Rattle.codes.proofs.Turns.{steps_none}
+use Rattle.codes.proofs.Turns.{steps_few}
 use Rattle.codes.proofs.first_from.Goals as goal
 
-pub loop-at-init : goal.loop-at-init
-loop-at-init c = (omega arith, c.requires.1.0, omega arith, refl, omega arith)
-
-pub next_step-c-requires : goal.next_step-c-requires
-next_step-c-requires c = (c.loop-at.invariant.1, omega arith)
-
-pub returns-then-x-c : goal.returns-then-x-c
-returns-then-x-c c = (
-  omega (arith, c.loop-at.invariant.2, ap (λ (r : List ℕ). below r c.args.x) c.next_step-c.ensures.is ∙ below-here c.next_step-c.result.step _ c.args.x (omega arith)),
-  sym (c.loop-at.invariant.3 ∙ found_here c.args.x c.next_step-c.ensures.is (omega arith)),
+pub returns-then-x-step : goal.returns-then-x-step
+returns-then-x-step c = (
+  omega (arith, c.loop-step.invariant.2, ap (λ (r : List ℕ). below r c.args.x) c.in-Some.ensures.steps ∙ below-here c.in-Some.step _ c.args.x (omega arith)),
+  sym (c.loop-step.invariant.3 ∙ found_here c.args.x c.in-Some.ensures.steps (omega arith)),
 )
 
-pub overflow_add-next : goal.overflow_add-next
-overflow_add-next c = omega (arith, c.next_step-c.ensures.fits)
+pub overflow_add-index : goal.overflow_add-index
+overflow_add-index c =
+    omega (
+      arith,
+      c.loop-step.invariant.2,
+      ap (λ (r : List ℕ). below r c.args.x) c.in-Some.ensures.steps ∙ below-past c.in-Some.step _ c.args.x (omega arith),
+      below-le (list_of (steps_from c.args.from c.args.part.now c.args.start)) c.args.x,
+      steps_few c.args.from c.args.part.now c.args.start c.requires.1.0,
+    )
 
-pub loop-at-smaller : goal.loop-at-smaller
-loop-at-smaller c = omega (arith, c.next_step-c.ensures.on, c.next_step-c.ensures.within)
-
-pub loop-at-preserved : goal.loop-at-preserved
-loop-at-preserved c = (
-  c.next_step-c.ensures.within,
-  c.next_step-c.ensures.sound,
-  omega (arith, c.loop-at.invariant.2, ap (λ (r : List ℕ). below r c.args.x) c.next_step-c.ensures.is ∙ below-past c.next_step-c.result.step _ c.args.x (omega arith)),
-  c.loop-at.invariant.3 ∙ found_past c.args.x c.next_step-c.ensures.is (omega arith),
-  omega (arith, c.next_step-c.ensures.on),
+pub loop-step-preserved : goal.loop-step-preserved
+loop-step-preserved c = (
+  tt,
+  tt,
+  omega (arith, c.loop-step.invariant.2, ap (λ (r : List ℕ). below r c.args.x) c.in-Some.ensures.steps ∙ below-past c.in-Some.step _ c.args.x (omega arith)),
+  c.loop-step.invariant.3 ∙ found_past c.args.x c.in-Some.ensures.steps (omega arith),
 )
 
 pub returns : goal.returns
-returns c = let n = steps_none c.loop-at.next c.args.part.now c.loop-at.at (omega arith) in (
-  omega (arith, c.loop-at.invariant.2, ap (λ (r : List ℕ). below r c.args.x) n ∙ below-nil c.args.x),
-  sym (c.loop-at.invariant.3 ∙ found_none c.args.x n),
+returns c = let n = c.in-None.ensures.steps.0 in (
+  omega (arith, c.loop-step.invariant.2, ap (λ (r : List ℕ). below r c.args.x) n ∙ below-nil c.args.x),
+  sym (c.loop-step.invariant.3 ∙ found_none c.args.x n),
 )

@@ -1,37 +1,27 @@
--- `codes_write::largest_gap` meets its contract: where the largest gap so far is below 128, only the gaps from rank `i` on are in question.
--- Assumes nothing.
+-- `codes_write::largest_gap` meets its contract, step by step. Assumes nothing.
 use native.Mathlib.Omega.{arith}
 use Rattle.codes_write.proofs.Writing.{Next, next}
 use Rattle.codes_write.proofs.Groups.{near_none, Near-cons}
 use Rattle.codes_write.proofs.largest_gap.Goals as goal
-use Rattle.codes_write.proofs.largest_gap.Goals.{After-larger-largest, After-shared_slice_known-in-loop-i-1}
+use Rattle.codes_write.proofs.largest_gap.Goals.{In-loop-x}
 
 -- the step of this turn
-this-After-shared_slice_known-in-loop-i-1 : (c : After-shared_slice_known-in-loop-i-1) → Next c.loop-i.next c.args.list.now c.loop-i.i
-this-After-shared_slice_known-in-loop-i-1 c =
-    next c.loop-i.next c.args.list.now c.loop-i.i (omega arith) c.loop-i.invariant.1 c.loop-i.invariant.2
-
--- the step of this turn
-this-After-larger-largest : (c : After-larger-largest) → Next c.loop-i.next c.args.list.now c.loop-i.i
-this-After-larger-largest c =
-    next c.loop-i.next c.args.list.now c.loop-i.i (omega arith) c.loop-i.invariant.1 c.loop-i.invariant.2
-
-pub loop-i-init : goal.loop-i-init
-loop-i-init c = (omega arith, c.requires.0, c.requires.1, λ h n. n)
+this : (c : In-loop-x) → Next c.loop-x.next c.args.list.now c.loop-x.x-index
+this c = next c.loop-x.next c.args.list.now c.loop-x.x-index (omega arith) c.loop-x.invariant.0 c.loop-x.invariant.1
 
 pub overflow_sub-x : goal.overflow_sub-x
-overflow_sub-x c = (this-After-shared_slice_known-in-loop-i-1 c).least
+overflow_sub-x c = (this (goal.at.overflow_sub-x c).In-loop-x).least
 
 pub overflow_add-next : goal.overflow_add-next
-overflow_add-next c = omega (arith, (this-After-larger-largest c).small)
+overflow_add-next c = omega (arith, (this (goal.at.overflow_add-next c).In-loop-x).small)
 
-pub loop-i-preserved : goal.loop-i-preserved
-loop-i-preserved c = let t = this-After-larger-largest c in (
-  omega arith,
-  t.rising,
-  t.end,
-  λ h n. c.loop-i.invariant.3 (omega (arith, c.larger-largest.ensures.0)) (Near-cons c.loop-i.next _ c.loop-i.i (omega arith) (omega (arith, c.larger-largest.ensures.1)) n),
-)
+pub loop-x-preserved : goal.loop-x-preserved
+loop-x-preserved c =
+    let t = this (goal.at.loop-x-preserved c).In-loop-x in (
+      t.rising,
+      t.end,
+      λ h n. c.loop-x.invariant.2 (omega arith) (Near-cons c.loop-x.next _ c.loop-x.x-index (omega arith) (omega arith) n),
+    )
 
 pub returns : goal.returns
-returns c = λ h. c.loop-i.invariant.3 h (near_none c.loop-i.next c.args.list.now c.loop-i.i (omega arith))
+returns c = λ h. c.loop-x.invariant.2 h (near_none c.loop-x.next c.args.list.now c.loop-x.x-index (omega arith))

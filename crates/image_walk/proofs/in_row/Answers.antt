@@ -8,7 +8,7 @@ use Rattle.row.specs.Words.{word_bytes}
 use Rattle.image_walk.specs.Turns.{met_walk}
 use Rattle.image_walk.specs.Inside.Moves.{Met}
 use Rattle.image_walk.proofs.Shapes.{Met_step}
-use Rattle.image_walk.proofs.Loading.{Seeking-start, seeking_on, seeking_turn, seeking_met}
+use Rattle.image_walk.proofs.Loading.{seeking_on, seeking_turn, seeking_met}
 use Rattle.image_walk.proofs.in_row.Goals as goal
 use Rattle.image_walk.proofs.in_row.Goals.{After-loop-bits, After-met, After-word-bits-in-loop-bits, In-loop-bits}
 
@@ -32,10 +32,6 @@ more-In-loop-bits : (c : In-loop-bits) → c.loop-bits.at + word_bytes < c.args.
 more-In-loop-bits c =
     seeking_on c.args.payload.now c.args.p c.requires.0 c.requires.1.0 c.requires.1.1 (bytes-In-loop-bits c) c.loop-bits.at c.loop-bits.low c.loop-bits.bits c.loop-bits.invariant c.loop-bits-test.true
 
-more-After-word-bits-in-loop-bits : (c : After-word-bits-in-loop-bits) → c.loop-bits.at + word_bytes < c.args.p.end
-more-After-word-bits-in-loop-bits c =
-    seeking_on c.args.payload.now c.args.p c.requires.0 c.requires.1.0 c.requires.1.1 (bytes-After-word-bits-in-loop-bits c) c.loop-bits.at c.loop-bits.low c.loop-bits.bits c.loop-bits.invariant c.loop-bits-test.true
-
 -- the word that is left has a one
 found-After-loop-bits : (c : After-loop-bits) → Met c.args.payload.now c.args.p (met_walk c.loop-bits.low c.loop-bits.bits (c.loop-bits.at + word_bytes) c.args.p.end c.args.p.block)
 found-After-loop-bits c =
@@ -46,12 +42,6 @@ found-After-met : (c : After-met) → Met c.args.payload.now c.args.p (met_walk 
 found-After-met c =
     seeking_met c.args.payload.now c.args.p c.requires.0 c.requires.1.0 c.requires.1.1 (bytes-After-met c) c.loop-bits.at c.loop-bits.low c.loop-bits.bits c.loop-bits.invariant c.loop-bits-test.false
 
-pub loop-bits-init : goal.loop-bits-init
-loop-bits-init c = Seeking-start c.args.payload.now c.args.p c.word-bits.result c.requires.1.1 c.word-bits.ensures (omega arith)
-
-pub overflow_add-at : goal.overflow_add-at
-overflow_add-at c = omega (arith, more-In-loop-bits c)
-
 pub overflow_add-low : goal.overflow_add-low
 overflow_add-low c = omega (arith, more-In-loop-bits c, c.loop-bits.invariant.place, c.requires.0.tight c.requires.1.0 c.requires.1.1, c.requires.0.small, largest_coded)
 
@@ -61,18 +51,9 @@ slice_bounds-word-count-in-loop-bits c = omega (arith, more-In-loop-bits c)
 pub slice_bounds-word-start-in-loop-bits : goal.slice_bounds-word-start-in-loop-bits
 slice_bounds-word-start-in-loop-bits c = omega (arith, more-In-loop-bits c)
 
-pub slice_bounds-word-end-in-loop-bits : goal.slice_bounds-word-end-in-loop-bits
-slice_bounds-word-end-in-loop-bits c = omega (arith, more-In-loop-bits c)
-
-pub loop-bits-smaller : goal.loop-bits-smaller
-loop-bits-smaller c = omega (arith, more-After-word-bits-in-loop-bits c)
-
 pub loop-bits-preserved : goal.loop-bits-preserved
 loop-bits-preserved c = seeking_turn c.args.payload.now c.args.p c.requires.0 c.requires.1.0 c.requires.1.1 (bytes-After-word-bits-in-loop-bits c) c.loop-bits.at c.loop-bits.low c.loop-bits.bits c.loop-bits.invariant
     c.word-bits-in-loop-bits.result c.loop-bits-test.true c.word-bits-in-loop-bits.ensures (omega arith)
-
-pub overflow_add-at-2 : goal.overflow_add-at-2
-overflow_add-at-2 c = omega (arith, c.loop-bits.invariant.on, c.requires.0.few)
 
 pub met-requires : goal.met-requires
 met-requires c = omega (arith, Met_step c.args.payload.now c.args.p _ c.requires.0 (found-After-loop-bits c), (found-After-loop-bits c).stands.low, largest_coded)

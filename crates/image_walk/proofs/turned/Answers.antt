@@ -9,5 +9,5 @@ pub returns-then-q : goal.returns-then-q
 returns-then-q c = Turned-Met c.current-q.ensures c.inside.ensures
 
 pub returns : goal.returns
-returns c = subst (Turned c.args.image.now c.args.payload.now c.args.p) (sym c.coded.ensures)
+returns c = subst (Turned c.args.source.image.now c.args.source.payload.now c.args.p) (sym c.coded.ensures)
     (Turned_over c.current-q.ensures c.no_step.result c.no_step.ensures (omega arith))

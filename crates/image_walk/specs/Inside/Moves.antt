@@ -1,13 +1,11 @@
 -- What the functions below `next` promise each other: a move within the loaded word or to a code of one byte, and the steps of a turn where no
 -- such move is left.
-use Rattle.std.specs.Prelude.{◌≡◌, List, [], ◌∷◌, ℕ, ◌+◌, ◌≤◌, ◌<◌, eqb}
+use Rattle.std.specs.Prelude.{◌≡◌, List, [], ◌∷◌, ℕ, ◌+◌, ◌≤◌, ◌<◌, eqb, Option, Some, None}
 use Rattle.lists.specs.Choice.{pick}
 use Rattle.rules.specs.Limits.{no_step}
 use Rattle.row.specs.Words.{word_bits}
 use Rattle.image_walk.specs.declared.Walk.{Walk}
 use Rattle.image_walk.specs.declared.Rest.{Rest}
-use Rattle.image_walk.specs.declared.Move.{Move}
-use Rattle.image_walk.specs.declared.Move.TheVariants.{To, Out}
 use Rattle.image_walk.specs.Walk.{others, here, Open, Placed}
 use Rattle.image_walk.specs.Turns.{met_walk, left, Left, onward}
 
@@ -36,11 +34,11 @@ pub record Slid (pay : List ℕ) (w v : Walk) : Type 0 where
   pub on : v.step < no_step
   pub is : here pay w ≡ v.step ∷ here pay v
 
--- a move within the loaded word: out of it where no one is left
-abbrev pub bit_move : Walk → Move
-bit_move w = pick (eqb (others w.bits) 0) Out (To (met_walk w.low (others w.bits) w.at w.end w.block))
+-- a move within the loaded word: none where no one is left in it
+abbrev pub bit_move : Walk → Option Walk
+bit_move w = pick (eqb (others w.bits) 0) None (Some (met_walk w.low (others w.bits) w.at w.end w.block))
 
--- a move: to a walk, or out of what is loaded
-abbrev pub Moves : List ℕ → Walk → Move → Type 0
-Moves pay w (To v) = Slid pay w v
-Moves pay w Out = here pay w ≡ left pay (rest_of w)
+-- a move: to a walk, or to none where it leads out of what is loaded
+abbrev pub Moves : List ℕ → Walk → Option Walk → Type 0
+Moves pay w (Some v) = Slid pay w v
+Moves pay w None = here pay w ≡ left pay (rest_of w)

@@ -2,7 +2,7 @@
 use mathlib.Core.Path.{◌≡◌, sym, subst}
 use Prim.Native.Nat.{ℕ}
 use native.Mathlib.Omega.{arith}
-use lib.ListN.{length, take}
+use lib.ListN.{take}
 use Rattle.rules.specs.Listed.{Listed}
 use Rattle.image.specs.Taken.{steps_of}
 use Rattle.image.proofs.Taken.{steps_Listed}
@@ -12,7 +12,7 @@ use Rattle.pair_operation.specs.Result.{result_of}
 use Rattle.pair_operation.proofs.Result.{result_Listed}
 use Rattle.pair.proofs.Outcomes.{Promise_written}
 use Rattle.pair.proofs.stored.Goals as goal
-use Rattle.pair.proofs.stored.Goals.{After-slice_known-6-1, After-write_front-arg-2-1}
+use Rattle.pair.proofs.stored.Goals.{After-write_front-arg-2-1}
 
 -- the result is one of document 01's lists
 listed : (c : After-write_front-arg-2-1) → Listed (result_of c.args.op (steps_of c.args.first.now) (steps_of c.args.second.now))
@@ -27,22 +27,16 @@ front c =
     c.store-k.ensures.0 c.store-k.ensures.1
 
 -- there is room for as many steps as were stored
-roomy-After-write_front-arg-2-1 : (c : After-write_front-arg-2-1) → Roomy c.store-k.result (length c.args.steps.now) (length c.args.work.now)
-roomy-After-write_front-arg-2-1 c =
-    subst (λ (k : ℕ). Roomy k (length c.args.steps.now) (length c.args.work.now)) (sym c.store-k.ensures.0) c.requires.ready.room
-
--- there is room for as many steps as were stored
-roomy-After-slice_known-6-1 : (c : After-slice_known-6-1) → Roomy c.store-k.result (length c.args.steps.now) (length c.args.work.now)
-roomy-After-slice_known-6-1 c =
-    subst (λ (k : ℕ). Roomy k (length c.args.steps.now) (length c.args.work.now)) (sym c.store-k.ensures.0) c.requires.ready.room
+roomy : {n k steps work : ℕ} → k ≡ n → Roomy n steps work → Roomy k steps work
+roomy {steps = s} {work = w} e r = subst (λ (k : ℕ). Roomy k s w) (sym e) r
 
 pub write_front-requires : goal.write_front-requires
 write_front-requires c = (
   subst Listed (sym (front c)) (listed c),
   stored_Roomy c.args.steps.now c.args.work.now c.args.out.now (result_of c.args.op (steps_of c.args.first.now) (steps_of c.args.second.now))
-      c.store-k.result c.store-k.ensures.0 c.store-k.ensures.1 (roomy-After-write_front-arg-2-1 c),
+      c.store-k.result c.store-k.ensures.0 c.store-k.ensures.1 (roomy c.store-k.ensures.0 c.requires.ready.room),
 )
 
 pub returns : goal.returns
 returns c = Promise_written c.args.op c.args.first.now c.args.second.now c.args.steps.now c.args.work.now c.args.out.now
-    c.requires.ready.first_taken c.requires.ready.second_taken c.store-k.result c.store-k.ensures.0 c.store-k.ensures.1 (roomy-After-slice_known-6-1 c) c.write_front.ensures
+    c.requires.ready.first_taken c.requires.ready.second_taken c.store-k.result c.store-k.ensures.0 c.store-k.ensures.1 (roomy c.store-k.ensures.0 c.requires.ready.room) c.write_front.ensures

@@ -10,6 +10,6 @@ lay_window-b-requires c = record { stands = (c.requires.together.0.second.stands
 
 pub returns : goal.returns
 returns c = let same : length c.lay_window-a.new.words ≡ length c.lay_window-b.new.words =
-    omega (arith, c.left-1.given, c.right-1.given, c.requires.right_value.1) in
-    window_Passes c.requires.together.0 c.lay_window-a.ensures c.lay_window-b.ensures same c.lower.ensures
-    (omega (arith, c.left-1.given, c.requires.left_value.1.0)) c.requires.together.1
+    omega (arith, c.requires.right_value.1) in
+    window_Passes c.requires.together.0 c.lay_window-a.ensures c.lay_window-b.ensures same c.min.ensures
+    (omega (arith, c.requires.left_value.1.0)) c.requires.together.1

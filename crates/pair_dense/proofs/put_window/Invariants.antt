@@ -1,6 +1,4 @@
 -- `pair_dense::put_window` meets its contract. The invariant: the steps from word i on are left to store. Assumes nothing.
-use Prim.Native.Nat.{◌-◌, ◌≤◌}
-use lib.ListN.{length}
 use Rattle.lists.proofs.Stores.{Storing}
 use Rattle.pair_dense.specs.Inside.Words.{steps_in}
 use Rattle.pair_dense.proofs.Words.{left_in}
@@ -8,7 +6,4 @@ use Rattle.pair_dense.proofs.put_window.Given as goal
 
 abbrev pub invariant-loop-i : goal.invariant-loop-i
 invariant-loop-i l =
-    (l.i ≤ length l.left) × Storing l.initial.steps l.at (steps_in l.op l.from l.left l.right) l.steps l.k (left_in l.op l.from l.left l.right l.i)
-
-abbrev pub decreases-loop-i : goal.decreases-loop-i
-decreases-loop-i l = length l.left - l.i
+    Storing l.initial.steps l.at (steps_in l.op l.from l.left l.right) l.steps l.k (left_in l.op l.from l.left l.right l.i)

@@ -7,6 +7,6 @@ use Rattle.pair_feed.proofs.more.Goals as goal
 
 pub returns : goal.returns
 returns c = (
-  λ xs d. subst (Fed c.args.image.now c.args.payload.now c.refill.result c.refill.new.steps) (taken_all d (omega (arith, c.if-f.false))) c.refill.ensures.0,
+  λ xs d. subst (Fed c.args.source.image.now c.args.source.payload.now c.refill.result c.refill.new.steps) (taken_all d (omega (arith, c.if-f.false))) c.refill.ensures.0,
   c.refill.ensures.1,
 )

@@ -8,7 +8,7 @@ use Rattle.image_walk.specs.Walk.{ahead}
 use Rattle.pair_feed.specs.declared.Feed.{Feed}
 use Rattle.pair_feed.specs.Feed.{Fed}
 use Rattle.pair_feed.specs.Inside.Growth.{Grown}
-use Rattle.pair_feed.proofs.Growing.{Grown_start, Grown_more}
+use Rattle.pair_feed.proofs.Growing.{Grown_more}
 use Rattle.pair_feed.proofs.Filling.{Fed-Grown, Fed_none}
 use Rattle.pair_feed.proofs.refill.Goals as goal
 use Rattle.pair_feed.proofs.refill.Goals.{After-loop-f, After-slice_known-then-none-w-1, Then-none-f}
@@ -19,53 +19,23 @@ sized c = omega arith
 
 -- what has grown from the first turn on shows the steps from the walk on
 ends-Then-none-f : (c : Then-none-f) → {g : Feed} {after : List ℕ}
-    → Grown c.args.image.now c.args.payload.now c.on-f.result c.on-f.new.steps g after
-    → Fed c.args.image.now c.args.payload.now g after (ahead c.args.image.now c.args.payload.now c.args.w) × (g.at < g.end)
+    → Grown c.args.source.image.now c.args.source.payload.now c.on-f.result c.on-f.new.steps g after
+    → Fed c.args.source.image.now c.args.source.payload.now g after (ahead c.args.source.image.now c.args.source.payload.now c.args.w) × (g.at < g.end)
 ends-Then-none-f c k =
     (Fed-Grown c.requires.stands (Grown_more c.on-f.ensures.0 k), omega (arith, k.from, k.longer, c.on-f.ensures.0.from, c.on-f.ensures.1))
 
 -- what has grown from the first turn on shows the steps from the walk on
 ends-After-loop-f : (c : After-loop-f) → {g : Feed} {after : List ℕ}
-    → Grown c.args.image.now c.args.payload.now c.on-f.result c.on-f.new.steps g after
-    → Fed c.args.image.now c.args.payload.now g after (ahead c.args.image.now c.args.payload.now c.args.w) × (g.at < g.end)
+    → Grown c.args.source.image.now c.args.source.payload.now c.on-f.result c.on-f.new.steps g after
+    → Fed c.args.source.image.now c.args.source.payload.now g after (ahead c.args.source.image.now c.args.source.payload.now c.args.w) × (g.at < g.end)
 ends-After-loop-f c k =
     (Fed-Grown c.requires.stands (Grown_more c.on-f.ensures.0 k), omega (arith, k.from, k.longer, c.on-f.ensures.0.from, c.on-f.ensures.1))
-
-pub no_step-none-requires : goal.no_step-none-requires
-no_step-none-requires c = tt
-
-pub fill_with_none-requires : goal.fill_with_none-requires
-fill_with_none-requires c = c.requires.steps_nonzero.1
-
-pub shape_of-steps-then-none-w : goal.shape_of-steps-then-none-w
-shape_of-steps-then-none-w c = sized c
 
 pub returns-then-none-w : goal.returns-then-none-w
 returns-then-none-w c = (Fed_none c.requires.stands c.fill_with_none.new.steps (length c.args.steps.now) (sym (sized c)) (omega (arith, c.if-none-w.true, c.no_step-none.ensures)) c.fill_with_none.ensures, c.requires.steps_nonzero.0)
 
-pub on-f-requires : goal.on-f-requires
-on-f-requires c = record { stands = (c.requires.stands, omega (arith, c.if-none-w.false, c.no_step-none.ensures)); end_in_bounds = c.requires.steps_nonzero }
-
-pub loop-f-init : goal.loop-f-init
-loop-f-init c = Grown_start c.on-f.ensures.0.stands c.on-f.ensures.0.within
-
-pub shape_of-steps-then-none-f : goal.shape_of-steps-then-none-f
-shape_of-steps-then-none-f c = c.loop-f.invariant.size ∙ c.on-f.ensures.0.size
-
 pub returns-then-none-f : goal.returns-then-none-f
 returns-then-none-f c = ends-Then-none-f c c.loop-f.invariant
-
-pub on-f-requires-in-loop-f : goal.on-f-requires-in-loop-f
-on-f-requires-in-loop-f c = let n : length c.loop-f.steps ≡ length c.args.steps.now = c.loop-f.invariant.size ∙ c.on-f.ensures.0.size in record { stands = (c.loop-f.invariant.stands, omega (arith, c.if-none-f.false, c.no_step-none.ensures)); end_in_bounds = (omega (arith, n, c.loop-f-test.true), omega (arith, n, c.requires.steps_nonzero.1)) }
-
-pub loop-f-smaller : goal.loop-f-smaller
-loop-f-smaller c = omega (arith, c.loop-f-test.true, c.on-f-in-loop-f.ensures.1)
-
-pub loop-f-preserved : goal.loop-f-preserved
-loop-f-preserved c = Grown_more c.loop-f.invariant c.on-f-in-loop-f.ensures.0
-
-pub shape_of-steps : goal.shape_of-steps
-shape_of-steps c = c.loop-f.invariant.size ∙ c.on-f.ensures.0.size
 
 pub returns : goal.returns
 returns c = ends-After-loop-f c c.loop-f.invariant

@@ -4,7 +4,7 @@ use Rattle.pair_feed.specs.Inside.Growth.{Grown, among_codes}
 use Rattle.pair_feed.proofs.run.Given as goal
 
 abbrev pub invariant-loop-k : goal.invariant-loop-k
-invariant-loop-k l = Grown l.image l.payload l.f l.initial.steps (among_codes l.f l.step l.at l.k) l.steps
+invariant-loop-k l = Grown l.source.image.now l.source.payload.now l.f l.initial.steps (among_codes l.f l.step l.at l.k) l.steps
 
 abbrev pub decreases-loop-k : goal.decreases-loop-k
 decreases-loop-k l = l.most - l.k

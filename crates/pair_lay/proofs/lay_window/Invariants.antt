@@ -5,7 +5,7 @@ use Rattle.pair_lay.proofs.Laying.{LayingWindow}
 use Rattle.pair_lay.proofs.lay_window.Given as goal
 
 abbrev pub invariant-loop-at : goal.invariant-loop-at
-invariant-loop-at l = LayingWindow l.image l.payload l.initial.at l.from (length l.initial.words) l.words l.at
+invariant-loop-at l = LayingWindow l.source.image.now l.source.payload.now l.initial.at l.from (length l.initial.words) l.words l.at
 
 abbrev pub decreases-loop-at : goal.decreases-loop-at
-decreases-loop-at l = length (ahead l.image l.payload l.at)
+decreases-loop-at l = length (ahead l.source.image.now l.source.payload.now l.at)

@@ -2,8 +2,5 @@
 use native.Mathlib.Omega.{arith}
 use Rattle.pair_lay.proofs.single_at.Goals as goal
 
-pub returns-then-end-at : goal.returns-then-end-at
-returns-then-end-at c = record { most = omega arith; some = λ h. absurd (omega arith); reads = λ h. absurd (omega arith) }
-
 pub slice_bounds-single-end : goal.slice_bounds-single-end
 slice_bounds-single-end c = c.requires (omega (arith, c.if-end-at.false))

@@ -1,9 +1,8 @@
 -- What four bytes at a place of the payload say, where each is a code by itself.
-use Rattle.std.specs.Prelude.{◌≡◌, List, ℕ, ◌+◌, ◌*◌, ◌≤◌, ◌<◌, length}
+use Rattle.std.specs.Prelude.{◌≡◌, List, ℕ, ◌+◌, ◌*◌, ◌≤◌, ◌<◌, length, Ok}
 use Rattle.lists.specs.Parts.{part}
 use Rattle.lists.specs.Bytes.{byte_values}
-use Rattle.code.specs.declared.Reading.TheVariants.{Code}
-use Rattle.code.specs.Code.{one_group, read_at}
+use Rattle.code.specs.Code.{one_group, reading, read_at}
 
 -- codes of one byte that are read at once
 abbrev pub at_once : ℕ
@@ -25,7 +24,7 @@ pub record Leads (pay : List ℕ) (at stride : ℕ) : Type 0 where
   pub gap : ℕ
   pub small : gap < one_group
   pub is : stride ≡ gap + 1
-  pub reads : (end : ℕ) → at < end → end ≤ length pay → read_at (part pay at end) 0 ≡ Code gap 1
+  pub reads : (end : ℕ) → at < end → end ≤ length pay → read_at (part pay at end) 0 ≡ Ok (reading gap 1)
 
 -- four of them, one after the other
 pub record Leading (pay : List ℕ) (at first second third fourth : ℕ) : Type 0 where

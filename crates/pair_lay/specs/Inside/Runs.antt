@@ -1,20 +1,19 @@
 -- What a run of short codes does.
-use Rattle.std.specs.Prelude.{◌≡◌, List, ◌∷◌, ◌++◌, ℕ, ◌+◌, ◌*◌, ◌≤◌, ◌<◌, length}
+use Rattle.std.specs.Prelude.{◌≡◌, List, ◌∷◌, ◌++◌, ℕ, ◌+◌, ◌*◌, ◌≤◌, ◌<◌, length, Ok}
 use Rattle.lists.specs.Rising.{beyond}
 use Rattle.lists.specs.Parts.{part}
 use Rattle.rules.specs.Limits.{no_step}
-use Rattle.code.specs.declared.Reading.TheVariants.{Code}
-use Rattle.code.specs.Code.{code_values, read_at}
+use Rattle.code.specs.Code.{code_values, reading, read_at}
 use Rattle.row.specs.Words.{word_bits}
 use Rattle.pair_window.specs.Window.{Gains}
 use Rattle.image_walk.specs.declared.Walk.{Walk}
 use Rattle.image_walk.specs.Walk.{here, Placed}
 
--- where `value` is the value of a code, that code opens the part of the payload from `at` to `end`, and has one byte
+-- the code of `value` opens the part of the payload from `at` to `end`, and has one byte
 pub record Opens (pay : List ℕ) (at end value : ℕ) : Type 0 where
-  pub most : value ≤ code_values
-  pub some : value < code_values → at < end
-  pub reads : value < code_values → read_at (part pay at end) 0 ≡ Code value 1
+  pub small : value < code_values
+  pub some : at < end
+  pub reads : read_at (part pay at end) 0 ≡ Ok (reading value 1)
 
 -- some steps of the codes of `w`, its own the first, which fall into the window from `o` on, are laid over its words, and `r` is the walk
 -- after them

@@ -1,10 +1,6 @@
 -- `pair_lay_row::lay_words` meets its contract: each turn lays the next word of the row, and the row's last is left. Assumes nothing.
-use Prim.Native.Nat.{◌-◌, ◌≤◌}
 use Rattle.pair_lay_row.proofs.Laying.{Rowing}
 use Rattle.pair_lay_row.proofs.lay_words.Given as goal
 
 abbrev pub invariant-loop-i : goal.invariant-loop-i
-invariant-loop-i l = (l.i ≤ l.count) × Rowing l.payload l.p l.from l.initial.words l.i l.words
-
-abbrev pub decreases-loop-i : goal.decreases-loop-i
-decreases-loop-i l = l.count - l.i
+invariant-loop-i l = Rowing l.payload l.p l.from l.initial.words l.i l.words

@@ -4,41 +4,38 @@ use mathlib.Core.Path.{sym, ap, ◌∙◌, subst}
 use Prim.Native.Nat.{◌+◌}
 use native.Mathlib.Omega.{arith}
 use lib.ListN.{length}
+use Rattle.std.specs.Prelude.{Err}
 use Rattle.image.specs.declared.Before.{Before}
 use Rattle.image.proofs.Directory.{Clean}
-use Rattle.read.specs.declared.Checked.TheVariants.{Refused}
 use Rattle.image_directory.proofs.Ahead.{ahead_Clean}
 use Rattle.image_block.proofs.Steps.{fitting, part_size}
 use Rattle.read.proofs.Turns.{Checking, Checking-start, Checking_next, checking_halt, checking_end}
 use Rattle.read.proofs.blocks.Goals as goal
-use Rattle.read.proofs.blocks.Goals.{After-entry-e, After-number-arg-1}
+use Rattle.read.proofs.blocks.Goals.{After-entry-e}
 
 -- what is known once the entry was read
-clean-After-entry-e : (c : After-entry-e) → Clean (length c.args.payload.now) c.loop-i.b c.entry-e.result
-clean-After-entry-e c = ahead_Clean c.loop-i.invariant.ahead c.entry-e.result c.entry-e.ensures.0 c.loop-i-test.true
-
--- what is known once the entry was read
-clean-After-number-arg-1 : (c : After-number-arg-1) → Clean (length c.args.payload.now) c.loop-i.b c.entry-e.result
-clean-After-number-arg-1 c = ahead_Clean c.loop-i.invariant.ahead c.entry-e.result c.entry-e.ensures.0 c.loop-i-test.true
+clean : (c : After-entry-e) → Clean (length c.args.payload.now) c.loop-i.b c.entry-e.result
+clean c = ahead_Clean c.loop-i.invariant.ahead c.entry-e.result c.entry-e.ensures.0 c.loop-i-test.true
 
 pub loop-i-init : goal.loop-i-init
 loop-i-init c = subst (λ (b : Before). Checking c.args.image.now c.args.payload.now c.args.m b 0) (sym c.start-b.ensures)
     (Checking-start c.args.image.now c.args.payload.now c.args.m c.requires)
 
-pub slice_bounds-number-count : goal.slice_bounds-number-count
-slice_bounds-number-count c = omega (arith, (clean-After-entry-e c).end)
+pub slice_bounds-block-count : goal.slice_bounds-block-count
+slice_bounds-block-count c = omega (arith, (clean (goal.at.slice_bounds-block-count c).After-entry-e).end)
 
-pub slice_bounds-number-start : goal.slice_bounds-number-start
-slice_bounds-number-start c = omega (arith, (clean-After-entry-e c).end, (clean-After-entry-e c).within)
+pub slice_bounds-block-start : goal.slice_bounds-block-start
+slice_bounds-block-start c = let k = clean (goal.at.slice_bounds-block-start c).After-entry-e in omega (arith, k.end, k.within)
 
-pub slice_bounds-number-end : goal.slice_bounds-number-end
-slice_bounds-number-end c = omega (arith, (clean-After-entry-e c).within)
+pub slice_bounds-block-end : goal.slice_bounds-block-end
+slice_bounds-block-end c = omega (arith, (clean (goal.at.slice_bounds-block-end c).After-entry-e).within)
 
-pub number-n-requires : goal.number-n-requires
-number-n-requires c = fitting (clean-After-number-arg-1 c) (part_size c.args.payload.now (clean-After-number-arg-1 c) c.requires.few)
+pub invariant_of-block : goal.invariant_of-block
+invariant_of-block c = let k = clean (goal.at.invariant_of-block c).After-entry-e in
+    record { fits = fitting k (part_size c.args.payload.now k c.requires.few) }
 
 pub returns-then-n-ne0 : goal.returns-then-n-ne0
-returns-then-n-ne0 c = ap Refused c.refuse.ensures
+returns-then-n-ne0 c = ap Err c.refuse.ensures
     ∙ checking_halt c.loop-i.invariant c.entry-e.result c.entry-e.ensures.0 c.loop-i-test.true
     c.number-n.result c.number-n.ensures c.if-n-ne0.true
 

@@ -6,6 +6,7 @@ use lib.ListN.{length}
 use Rattle.image.specs.declared.Before.{Before}
 use Rattle.image.proofs.Directory.{Clean}
 use Rattle.image_directory.proofs.Ahead.{ahead_Clean}
+use Rattle.image_block.proofs.Steps.{fitting, part_size}
 use Rattle.read.proofs.Turns.{Putting, Putting-start, putting_sound, putting_room, putting_next, putting_end}
 use Rattle.read.proofs.put_blocks.Goals as goal
 use Rattle.read.proofs.put_blocks.Goals.{After-entry-e}
@@ -18,14 +19,18 @@ pub loop-i-init : goal.loop-i-init
 loop-i-init c = subst (λ (b : Before). Putting c.args.image.now c.args.payload.now c.args.m c.args.out.now c.args.out.now b 0 0) (sym c.start-b.ensures)
     (Putting-start c.args.image.now c.args.payload.now c.args.m c.args.out.now c.requires)
 
-pub slice_bounds-put_steps-count : goal.slice_bounds-put_steps-count
-slice_bounds-put_steps-count c = omega (arith, (clean c).end)
+pub slice_bounds-block-count : goal.slice_bounds-block-count
+slice_bounds-block-count c = omega (arith, (clean (goal.at.slice_bounds-block-count c).After-entry-e).end)
 
-pub slice_bounds-put_steps-start : goal.slice_bounds-put_steps-start
-slice_bounds-put_steps-start c = omega (arith, (clean c).end, (clean c).within)
+pub slice_bounds-block-start : goal.slice_bounds-block-start
+slice_bounds-block-start c = let k = clean (goal.at.slice_bounds-block-start c).After-entry-e in omega (arith, k.end, k.within)
 
-pub slice_bounds-put_steps-end : goal.slice_bounds-put_steps-end
-slice_bounds-put_steps-end c = omega (arith, (clean c).within)
+pub slice_bounds-block-end : goal.slice_bounds-block-end
+slice_bounds-block-end c = omega (arith, (clean (goal.at.slice_bounds-block-end c).After-entry-e).within)
+
+pub invariant_of-block : goal.invariant_of-block
+invariant_of-block c = let k = clean (goal.at.invariant_of-block c).After-entry-e in
+    record { fits = fitting k (part_size c.args.payload.now k c.requires.sound.few) }
 
 pub put_steps-at-requires : goal.put_steps-at-requires
 put_steps-at-requires c = (

@@ -1,6 +1,5 @@
 -- `row::below_in` meets its contract: the whole bytes before the bound have their ones below it, and its own byte has those of its lowest bits.
 -- Assumes nothing.
-use mathlib.Core.Path.{sym}
 use Prim.Native.Nat.{◌-◌, ◌/◌}
 use native.Mathlib.Omega.{arith}
 use lib.ListN.{take}
@@ -10,12 +9,6 @@ use Rattle.row.specs.Row.{byte_bits, row_steps}
 use Rattle.row.proofs.Row.{Rising_row, beyond_row_most}
 use Rattle.row.proofs.Places.{below_whole}
 use Rattle.row.proofs.below_in.Goals as goal
-
-pub slice_bounds-ones_in-end : goal.slice_bounds-ones_in-end
-slice_bounds-ones_in-end c = sym (length-take-le ((c.args.x - c.args.from) / byte_bits) c.args.part.now (omega arith))
-
-pub ones_in-requires : goal.ones_in-requires
-ones_in-requires c = omega (arith, length-take-le ((c.args.x - c.args.from) / byte_bits) c.args.part.now (omega arith))
 
 pub overflow_add-result : goal.overflow_add-result
 overflow_add-result c = let whole = take ((c.args.x - c.args.from) / byte_bits) c.args.part.now in

@@ -1,41 +1,24 @@
--- `row::end` meets its contract. The invariant: the bytes from place i on have no ones. Assumes nothing.
-use mathlib.Core.Path.{◌≡◌, sym, ap, ◌∙◌}
-use Prim.Native.Nat.{ℕ}
+-- `row::end` meets its contract: the bytes after the last that is not 0 have no ones. Assumes nothing.
+use Rattle.std.proofs.Common.{rules, ◌≡◌, ℕ, ◌<◌, length, get_or}
+use Rattle.std.proofs.iter.runs.Made.{chains}
 use native.Mathlib.Omega.{arith}
-use lib.Count.{leading_le}
-use lib.ListN.{take}
-use lib.Seq.{take-length}
+use mathlib.Core.Path.{sym, ap}
 use Rattle.lists.specs.Rising.{beyond}
-use Rattle.row.specs.Row.{row_steps}
-use Rattle.row.proofs.Row.{row_none}
-use Rattle.row.proofs.Places.{last_before, last_here}
+use Rattle.row.proofs.Places.{row_zeros, last_here}
 use Rattle.row.proofs.end.Goals as goal
+use Rattle.row.proofs.end.Goals.{In-Some, In-None}
 
-pub loop-i-init : goal.loop-i-init
-loop-i-init c = (omega arith, ap (row_steps 0) (sym (take-length c.args.part.now)))
+all_zero : (c : In-None) → (k : ℕ) → k < length c.args.part.now → get_or c.args.part.now k 0 ≡ 0
+all_zero c k h = search (rules, chains)
 
-pub overflow_mul-result : goal.overflow_mul-result
-overflow_mul-result c = omega arith
+after_zero : (c : In-Some) → (k : ℕ) → c.in-Some.i < k → k < length c.args.part.now → get_or c.args.part.now k 0 ≡ 0
+after_zero c k g h = search (rules, chains)
 
-pub overflow_add-result : goal.overflow_add-result
-overflow_add-result c = omega arith
+here : (c : In-Some) → get_or c.args.part.now c.in-Some.i 0 ≡ 0 → ⊥
+here c h = search (rules, chains)
 
-pub overflow_cast-result : goal.overflow_cast-result
-overflow_cast-result c = omega (arith, leading_le 64 c.wide-byte.result)
+pub returns-in-Some : goal.returns-in-Some
+returns-in-Some c = last_here c.args.part.now c.in-Some.i (omega (arith, c.in-Some.ensures.bound)) (after_zero (goal.at.returns-in-Some c).In-Some) (here (goal.at.returns-in-Some c).In-Some) (c.type_inv.part c.in-Some.i).fits
 
-pub overflow_sub-result : goal.overflow_sub-result
-overflow_sub-result c = omega (arith, leading_le 64 c.wide-byte.result)
-
-pub returns-then-byte-ne0 : goal.returns-then-byte-ne0
-returns-then-byte-ne0 c = last_here c.args.part.now c.loop-i.i c.wide-byte.result (omega arith) (omega arith) c.wide-byte.ensures.0 (omega arith) c.wide-byte.ensures.1
-    ∙ ap (beyond 0) (sym c.loop-i.invariant.1)
-
-pub loop-i-smaller : goal.loop-i-smaller
-loop-i-smaller c = omega arith
-
-pub loop-i-preserved : goal.loop-i-preserved
-loop-i-preserved c = (omega arith, c.loop-i.invariant.1 ∙ last_before c.args.part.now c.loop-i.i c.wide-byte.result (omega arith) (omega arith) c.wide-byte.ensures.0 (omega arith))
-
-pub returns : goal.returns
-returns c = let z : c.loop-i.i ≡ 0 = omega arith in
-    sym (ap (beyond 0) (c.loop-i.invariant.1 ∙ ap (λ (n : ℕ). row_steps 0 (take n c.args.part.now)) z ∙ row_none 0))
+pub returns-in-None : goal.returns-in-None
+returns-in-None c = sym (ap (beyond 0) (row_zeros 0 c.args.part.now (all_zero c)))

@@ -6,13 +6,13 @@ use Rattle.row.proofs.Places.{kth_start, kth_here, kth_past, kth_end}
 use Rattle.row.proofs.kth.Goals as goal
 
 pub loop-at-init : goal.loop-at-init
-loop-at-init c = (omega arith, kth_start c.args.byte c.args.k)
+loop-at-init c = kth_start c.args.byte c.args.k
 
 pub returns-then-left-bit : goal.returns-then-left-bit
-returns-then-left-bit c = sym (c.loop-at.invariant.1 ∙ kth_here c.loop-at.at c.loop-at.bits c.loop-at.left (omega arith) c.if-left-bit.true)
+returns-then-left-bit c = sym (c.loop-at.invariant ∙ kth_here c.loop-at.at c.loop-at.bits c.loop-at.left (omega arith) c.if-left-bit.true)
 
 pub loop-at-preserved : goal.loop-at-preserved
-loop-at-preserved c = (omega arith, c.loop-at.invariant.1 ∙ kth_past c.loop-at.at c.loop-at.bits c.loop-at.left (omega arith) c.if-left-bit.false)
+loop-at-preserved c = c.loop-at.invariant ∙ kth_past c.loop-at.at c.loop-at.bits c.loop-at.left (omega arith) c.if-left-bit.false
 
 pub returns : goal.returns
-returns c = sym (c.loop-at.invariant.1 ∙ kth_end c.loop-at.at c.loop-at.bits c.loop-at.left (omega arith))
+returns c = sym (c.loop-at.invariant ∙ kth_end c.loop-at.at c.loop-at.bits c.loop-at.left (omega arith))

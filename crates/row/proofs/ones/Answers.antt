@@ -4,9 +4,6 @@ use Rattle.row.specs.Words.{word_bits}
 use Rattle.row.proofs.Bits.{ones_bits, length_bits_most}
 use Rattle.row.proofs.ones.Goals as goal
 
-pub overflow_cast-result : goal.overflow_cast-result
-overflow_cast-result c = omega (arith, ones_bits word_bits 0 c.args.word c.ranges.word.fits, length_bits_most word_bits 0 c.args.word)
-
 pub returns : goal.returns
 returns c = let e = ones_bits word_bits 0 c.args.word c.ranges.word.fits in
     (e, omega (arith, length_bits_most word_bits 0 c.args.word))

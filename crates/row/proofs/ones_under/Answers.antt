@@ -2,18 +2,14 @@
 use mathlib.Core.Path.{ap, ◌∙◌}
 use Prim.Native.Nat.{ℕ, ◌%◌}
 use native.Mathlib.Omega.{arith}
-use lib.Pow.{pow_pos}
 use lib.ListN.{length}
 use Rattle.row.specs.Row.{byte_bits, bits_from}
 use Rattle.row.proofs.Places.{ones_masked}
 use Rattle.row.proofs.ones_under.Goals as goal
 
-pub overflow_sub-low : goal.overflow_sub-low
-overflow_sub-low c = omega (arith, c.one_at-low.ensures.0, pow_pos (c.args.place % byte_bits))
-
 pub returns : goal.returns
 returns c = let t = c.args.place % byte_bits in (
-  ones_masked c.wide.result t c.one_at-low.result c.ones.result (omega arith) c.one_at-low.ensures.0 c.ones.ensures.0
-      ∙ ap (λ (b : ℕ). length (bits_from t 0 b)) c.wide.ensures.0,
+  ones_masked c.from.result t c.one_at-low.result c.ones.result (omega arith) c.one_at-low.ensures.0 c.ones.ensures.0
+      ∙ ap (λ (b : ℕ). length (bits_from t 0 b)) c.from.ensures,
   c.ones.ensures.1,
 )

@@ -1,13 +1,8 @@
--- `row::step_at` meets its contract: the step looked for is the one at index `left` of the row from byte i on. Assumes nothing.
-use Prim.Native.Nat.{◌-◌, ◌≤◌}
-use lib.ListN.{length}
+-- `row::step_at` meets its contract: the step looked for is the one at index `left` of the row from word i on. Assumes nothing.
 use Rattle.row.specs.Row.{row_steps}
-use Rattle.row.proofs.Row.{row_left}
+use Rattle.row.proofs.Words.{words_left}
 use Rattle.row.proofs.Seeking.{Seeking}
 use Rattle.row.proofs.step_at.Given as goal
 
 abbrev pub invariant-loop-i : goal.invariant-loop-i
-invariant-loop-i l = (l.i ≤ length l.part) × Seeking (row_steps l.from l.part) l.k (row_left l.from l.part l.i) l.left
-
-abbrev pub decreases-loop-i : goal.decreases-loop-i
-decreases-loop-i l = length l.part - l.i
+invariant-loop-i l = Seeking (row_steps l.from l.part) l.k (words_left l.from l.part l.i) l.left

@@ -10,9 +10,6 @@ use Rattle.row.specs.Row.{byte_bits, row_steps}
 use Rattle.row.proofs.Row.{row_parts, length_row_parts}
 use Rattle.row_read.proofs.steps.Goals as goal
 
-pub slice_bounds-steps_in-end : goal.slice_bounds-steps_in-end
-slice_bounds-steps_in-end c = sym (length-take-le (length c.args.part.now - 16) c.args.part.now (omega arith))
-
 pub steps_in-k-requires : goal.steps_in-k-requires
 steps_in-k-requires c = let n : ℕ = length c.args.part.now - 16 in (
   omega (arith, length-take-le n c.args.part.now (omega arith), c.requires.0),

@@ -1,61 +1,17 @@
--- `row_read::steps_loose` meets its contract: the steps of the bytes from i on are still to be stored, over what is loose. Assumes nothing.
-use mathlib.Core.Path.{refl, ◌∙◌}
-use Prim.Native.Nat.{◌+◌, ◌≤◌}
+-- `row_read::steps_loose` meets its contract: the steps of the words from index i on are still to be stored, over what is loose. Assumes nothing.
+use mathlib.Core.Path.{◌∙◌}
 use native.Mathlib.Omega.{arith}
-use lib.ListN.{length}
-use Rattle.row.specs.Row.{bits_from}
-use Rattle.row_word.specs.Groups.{group_bits, places_from, counts_from, all_places}
-use Rattle.row_read.proofs.Putting.{word_steps, Running_start, running_room, Running_turn, running_Room_rest, running_end}
+use Rattle.row_read.proofs.Putting.{running_room, Running_turn, running_Room_rest, running_end}
 use Rattle.row_read.proofs.steps_loose.Goals as goal
-use Rattle.row_read.proofs.steps_loose.Goals.{After-put_loose-arg-1}
-
-room : (c : After-put_loose-arg-1) → c.loop-i.k + length (word_steps c.args.from c.loop-i.i c.word_at.result) + group_bits
-    ≤ length c.loop-i.out
-room c =
-    running_room c.loop-i.invariant (λ j. (c.type_inv.part j).fits) c.word_at.result (omega arith) c.word_at.ensures
-
-pub loop-i-init : goal.loop-i-init
-loop-i-init c = Running_start c.args.part.now c.args.from c.args.out.now c.args.at c.requires.1
-
-pub overflow_add-i : goal.overflow_add-i
-overflow_add-i c = omega arith
-
-pub word_at-requires : goal.word_at-requires
-word_at-requires c = omega arith
-
-pub overflow_mul-i : goal.overflow_mul-i
-overflow_mul-i c = omega arith
-
-pub overflow_add-from : goal.overflow_add-from
-overflow_add-from c = omega arith
 
 pub put_loose-k-requires : goal.put_loose-k-requires
-unfolding all_places places_from counts_from bits_from
-put_loose-k-requires c = (refl, (omega arith, room c))
-
-pub overflow_add-i-in-loop-i : goal.overflow_add-i-in-loop-i
-overflow_add-i-in-loop-i c = omega arith
-
-pub loop-i-smaller : goal.loop-i-smaller
-loop-i-smaller c = omega arith
+put_loose-k-requires c = (omega arith, running_room c.loop-i.invariant (λ j. (c.type_inv.part j).fits) c.as_chunks.result.0.now c.as_chunks.ensures.front (omega arith) c.word_of.result c.word_of.ensures)
 
 pub loop-i-preserved : goal.loop-i-preserved
-loop-i-preserved c = Running_turn c.loop-i.invariant (λ j. (c.type_inv.part j).fits) c.word_at.result (omega arith) c.word_at.ensures c.put_loose-k.auto.out c.put_loose-k.ensures
-
-pub last_word-requires : goal.last_word-requires
-last_word-requires c = (c.loop-i.invariant.few, omega arith)
-
-pub overflow_mul-i-2 : goal.overflow_mul-i-2
-overflow_mul-i-2 c = omega arith
-
-pub overflow_add-from-2 : goal.overflow_add-from-2
-overflow_add-from-2 c = omega arith
+loop-i-preserved c = Running_turn c.loop-i.invariant (λ j. (c.type_inv.part j).fits) c.as_chunks.result.0.now c.as_chunks.ensures.front (omega arith) c.word_of.result c.word_of.ensures c.put_loose-k.auto.out c.put_loose-k.ensures
 
 pub put_ones-requires : goal.put_ones-requires
-put_ones-requires c = running_Room_rest c.loop-i.invariant (λ j. (c.type_inv.part j).fits) c.last_word.result (omega arith) c.last_word.ensures c.requires.0
-
-pub shape_of-out : goal.shape_of-out
-shape_of-out c = c.put_ones.auto.out ∙ c.loop-i.invariant.loosely.same
+put_ones-requires c = running_Room_rest c.loop-i.invariant (λ j. (c.type_inv.part j).fits) c.as_chunks.result.1.now c.as_chunks.ensures.back _ c.as_chunks.ensures.front_len (omega arith) c.last_word.result c.last_word.ensures c.requires.0
 
 pub returns : goal.returns
-returns c = running_end c.loop-i.invariant (λ j. (c.type_inv.part j).fits) c.last_word.result (omega arith) c.last_word.ensures c.put_ones.auto.out c.put_ones.ensures
+returns c = running_end c.loop-i.invariant (λ j. (c.type_inv.part j).fits) c.as_chunks.result.1.now c.as_chunks.ensures.back _ c.as_chunks.ensures.front_len (omega arith) c.last_word.result c.last_word.ensures c.put_ones.auto.out c.put_ones.ensures

@@ -5,4 +5,4 @@ use Rattle.row.proofs.Bits.{length_bits_moved}
 use Rattle.row_word.proofs.put_dense.Goals as goal
 
 pub put_many-requires : goal.put_many-requires
-put_many-requires c = (c.requires.0, (omega arith, omega (arith, c.ones.ensures.0, length_bits_moved word_bits c.args.from c.args.word)))
+put_many-requires c = (omega arith, omega (arith, c.ones.ensures.0, length_bits_moved word_bits c.args.from c.args.word))

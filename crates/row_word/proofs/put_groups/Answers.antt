@@ -10,10 +10,7 @@ pub overflow_add-from : goal.overflow_add-from
 overflow_add-from c = omega arith
 
 pub put_group-k-requires : goal.put_group-k-requires
-put_group-k-requires c = (c.requires.0, (omega arith, (omega arith, omega (arith, grouping_room c.loop-j.invariant, c.loop-j.invariant.loosely.same, c.requires.1.1))))
-
-pub overflow_add-j : goal.overflow_add-j
-overflow_add-j c = omega arith
+put_group-k-requires c = (omega arith, (omega arith, omega (arith, grouping_room c.loop-j.invariant, c.loop-j.invariant.loosely.same, c.requires.1)))
 
 pub loop-j-smaller : goal.loop-j-smaller
 loop-j-smaller c = omega arith

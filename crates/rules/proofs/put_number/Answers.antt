@@ -1,19 +1,10 @@
--- `rules::put_number` meets its contract: the four stores are the run of the number's bytes. Assumes nothing.
+-- `rules::put_number` meets its contract: the library's bytes of a number are those of document 01. Assumes nothing.
+use mathlib.Core.Path.{ap, ◌∙◌}
 use native.Mathlib.Omega.{arith}
-use native.Mathlib.Numerals.{add-one, add-two, add-three}
-use lib.ListN.{length-set}
-use Rattle.rules.specs.Numbers.{little_bytes}
+use lib.ListN.{take}
+use Rattle.rules.specs.Sizes.{number_size}
+use Rattle.rules.proofs.Numbers.{number_bytes_eight, put_run, length_little}
 use Rattle.rules.proofs.put_number.Goals as goal
 
-pub bounds-out-at-2 : goal.bounds-out-at-2
-bounds-out-at-2 c = simp length-set (omega arith)
-
-pub bounds-out-at-3 : goal.bounds-out-at-3
-bounds-out-at-3 c = simp length-set (omega arith)
-
-pub bounds-out-at-4 : goal.bounds-out-at-4
-bounds-out-at-4 c = simp length-set (omega arith)
-
 pub returns : goal.returns
-unfolding little_bytes
-returns c = simp (add-one, add-two, add-three)
+returns c = put_run c.args.out.now c.args.at _ c.copy_from_slice.new.self _ (c.copy_from_slice.ensures.after ∙ ap (take number_size) c.to_le_bytes.ensures ∙ number_bytes_eight c.args.n) (omega (arith, length_little number_size c.args.n)) (omega (arith, length_little number_size c.args.n))

@@ -5,44 +5,20 @@ use Rattle.plan.specs.Planned.{cut_of}
 use Rattle.write.proofs.Laying.{laying_start, Laying_next, laying_turn, laying_end}
 use Rattle.write.proofs.put_blocks.Goals as goal
 
-pub overflow_mul-base : goal.overflow_mul-base
-overflow_mul-base c = omega arith
-
-pub overflow_add-base : goal.overflow_add-base
-overflow_add-base c = omega arith
-
-pub overflow_add-base-2 : goal.overflow_add-base-2
-overflow_add-base-2 c = omega arith
-
 pub loop-i-init : goal.loop-i-init
 loop-i-init c = (cut_of c.args.list.now, laying_start c.requires.marks.0 c.requires.marks.1 c.requires.list_in_bounds)
-
-pub offset_bounds-work-i : goal.offset_bounds-work-i
-offset_bounds-work-i c = omega arith
-
-pub bounds-work-i : goal.bounds-work-i
-bounds-work-i c = omega arith
-
-pub overflow_cast-word : goal.overflow_cast-word
-overflow_cast-word c = omega (arith, c.type_inv.work c.loop-i.i)
 
 pub put_block-p-requires : goal.put_block-p-requires
 put_block-p-requires c = let t = Laying_next c.loop-i.invariant.1 (omega arith) in
     record { within = (t.within, t.entry, t.laying.low); word_in_bounds = t.part }
 
-pub overflow_add-at : goal.overflow_add-at
-overflow_add-at c = omega (arith, (Laying_next c.loop-i.invariant.1 (omega arith)).entry)
-
 pub loop-i-smaller : goal.loop-i-smaller
 loop-i-smaller c = let w = (Laying_next c.loop-i.invariant.1 (omega arith)).within in
-    omega (arith, w.after, w.inside)
+    omega (arith, w.after, w.inside, c.upto-i.ensures)
 
 pub loop-i-preserved : goal.loop-i-preserved
 loop-i-preserved c = let t = Laying_next c.loop-i.invariant.1 (omega arith) in
-    (t.rest, laying_turn t c.put_block-p.ensures)
-
-pub shape_of-out : goal.shape_of-out
-shape_of-out c = c.loop-i.invariant.1.same
+    rw c.upto-i.ensures (t.rest, laying_turn t c.put_block-p.ensures)
 
 pub returns : goal.returns
 returns c = laying_end c.loop-i.invariant.1 c.loop-i-test.false

@@ -2,43 +2,28 @@
 use mathlib.Core.Path.{refl, sym, ap, ◌∙◌}
 use native.Mathlib.Omega.{arith}
 use lib.ListN.{length}
+use Rattle.std.specs.Prelude.{Err}
 use Rattle.rules.specs.Limits.Laws.{most_counted}
 use Rattle.rules.specs.Refusals.{work_too_short, refusal}
-use Rattle.rules.specs.Listed.{Listed}
+use Rattle.rules.proofs.Passed.{passed}
 use Rattle.write_list.proofs.Tests.{Accepted-Listed}
 use Rattle.write.proofs.Outcomes.{outcome_refused, outcome_work, Promise_stopped}
 use Rattle.write.proofs.write.Goals as goal
-use Rattle.write.proofs.write.Goals.{After-refuse, After-write_listed-arg-in-Accepted-1, In-Accepted, Then-work-need}
 
--- the list stands the tests
-listed-In-Accepted : (c : In-Accepted) → Listed c.args.list.now
-listed-In-Accepted c = Accepted-Listed (sym c.test-t.ensures ∙ c.in-Accepted.is)
-
--- the list stands the tests
-listed-Then-work-need : (c : Then-work-need) → Listed c.args.list.now
-listed-Then-work-need c = Accepted-Listed (sym c.test-t.ensures ∙ c.in-Accepted.is)
-
--- the list stands the tests
-listed-After-refuse : (c : After-refuse) → Listed c.args.list.now
-listed-After-refuse c = Accepted-Listed (sym c.test-t.ensures ∙ c.in-Accepted.is)
-
--- the list stands the tests
-listed-After-write_listed-arg-in-Accepted-1 : (c : After-write_listed-arg-in-Accepted-1) → Listed c.args.list.now
-listed-After-write_listed-arg-in-Accepted-1 c = Accepted-Listed (sym c.test-t.ensures ∙ c.in-Accepted.is)
+pub returns-in_err-test : goal.returns-in_err-test
+returns-in_err-test c = Promise_stopped (passed c.from_residual.result c.from_residual.ensures.1) refl
+    (outcome_refused c.args.list.now (length c.args.work.now) (length c.args.out.now) (sym c.test.ensures ∙ c.in_err-test.was))
 
 pub work_for-need-requires : goal.work_for-need-requires
-work_for-need-requires c = omega (arith, (listed-In-Accepted c).few)
+work_for-need-requires c = omega (arith, (Accepted-Listed (sym c.test.ensures ∙ c.in_ok-test.was)).few)
 
-pub refuse-requires : goal.refuse-requires
-refuse-requires c = omega (arith, c.work_for-need.ensures, (listed-Then-work-need c).few, most_counted)
+pub overflow_cast-need : goal.overflow_cast-need
+overflow_cast-need c = omega (arith, c.work_for-need.ensures, (Accepted-Listed (sym c.test.ensures ∙ c.in_ok-test.was)).few, most_counted)
 
 pub returns-then-work-need : goal.returns-then-work-need
-returns-then-work-need c = Promise_stopped c.refuse.ensures (ap (refusal work_too_short) c.work_for-need.ensures)
-    (outcome_work c.args.list.now (length c.args.work.now) (length c.args.out.now) (listed-After-refuse c) (omega (arith, c.work_for-need.ensures, c.if-work-need.true)))
+returns-then-work-need c = Promise_stopped (ap Err c.refuse.ensures) (ap (refusal work_too_short) c.work_for-need.ensures)
+    (outcome_work c.args.list.now (length c.args.work.now) (length c.args.out.now) (Accepted-Listed (sym c.test.ensures ∙ c.in_ok-test.was))
+    (omega (arith, c.work_for-need.ensures, c.if-work-need.true)))
 
 pub write_listed-requires : goal.write_listed-requires
-write_listed-requires c = (listed-After-write_listed-arg-in-Accepted-1 c, omega (arith, c.work_for-need.ensures, c.if-work-need.false))
-
-pub returns-in-Refused : goal.returns-in-Refused
-returns-in-Refused c = Promise_stopped refl refl
-    (outcome_refused c.args.list.now (length c.args.work.now) (length c.args.out.now) (sym c.test-t.ensures ∙ c.in-Refused.is))
+write_listed-requires c = (Accepted-Listed (sym c.test.ensures ∙ c.in_ok-test.was), omega (arith, c.work_for-need.ensures, c.if-work-need.false))

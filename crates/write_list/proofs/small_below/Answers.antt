@@ -5,17 +5,11 @@ use Rattle.write_list.specs.Inside.Passed.{Passed}
 use Rattle.write_list.proofs.Faults.{first_le, first_below, small_below}
 use Rattle.write_list.proofs.small_below.Goals as goal
 
-pub returns-then-fall-eq0 : goal.returns-then-fall-eq0
-returns-then-fall-eq0 c = (omega arith, λ k h. absurd (omega arith))
-
 pub offset_bounds-list-fall : goal.offset_bounds-list-fall
 offset_bounds-list-fall c = omega (arith, first_le falls 0 c.args.list.now)
 
 pub bounds-list-fall : goal.bounds-list-fall
 bounds-list-fall c = omega (arith, first_le falls 0 c.args.list.now)
-
-pub returns-then-largest_step-list : goal.returns-then-largest_step-list
-returns-then-largest_step-list c = (omega arith, λ k h. absurd (omega arith))
 
 pub returns : goal.returns
 returns c = let p : Passed falls c.args.list.now c.args.fall = rw c.requires (first_below falls c.args.list.now) in
