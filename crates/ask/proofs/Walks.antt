@@ -36,7 +36,7 @@ walk_from move t (Err r) = []
 abbrev at : ℕ → Cursor
 at k = record { rank = k }
 
--- `s` is an image of the list `xs`, and `move` kept the promise of `next` on it
+-- `s` is an image of the list `xs`, and `move` keeps the promise of `next` on it
 module _ (s xs : List ℕ) (e : verdict s ≡ taken xs) (move : Cursor → Result Next Refusal)
     (kept : (c : Cursor) → c.rank ≤ length xs → next_paper (move c) ≡ next_promise c.rank s) where
   promise : (k : ℕ) → k ≤ length xs → next_paper (move (at k)) ≡ next_in k (taken xs)

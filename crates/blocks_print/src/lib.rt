@@ -8,14 +8,24 @@ ghost use Rattle.std.specs.Io.KnownBytes.{Appends};
 ghost use Rattle.rules.specs.Numbers.{number_at};
 ghost use Rattle.image.specs.Verdict.{verdict};
 ghost use Rattle.image.specs.Taken.{Takes};
-ghost use Rattle.blocks_print.specs.Text.{longest, lines_text, listing, report};
+ghost use Rattle.blocks_lines.specs.Shown.{another};
+ghost use Rattle.blocks_print.specs.Text.{longest, lines_text, refusal_line, listing, report};
 
 use blocks_lines::Contents;
+use rules::Refusal;
 use std::io;
 use std::io::{Read, Write};
 
 // Document 01: the longest input that is read, in bytes.
 const LONGEST: usize = 65536;
+
+// Prints a number with a space before it.
+// Kept: it says so of every number, which no line of an image does.
+pub fn another<W: Write>(out: &mut W, x: usize) -> io::Result<()>
+    ensures { OnOk result (Appends (W.contents out.old) (W.contents out.new) (another x)) }
+{
+    write!(out, " {x}")
+}
 
 // Prints the lines of all blocks.
 fn print_lines<W: Write>(out: &mut W, image: &[u8], blocks: usize) -> io::Result<()>
@@ -27,6 +37,14 @@ fn print_lines<W: Write>(out: &mut W, image: &[u8], blocks: usize) -> io::Result
         writeln!(out, "{line}")?;
     }
     Ok(())
+}
+
+// Prints the only line of an image that is refused.
+// Kept: it says so of every refusal, and `list` of those alone that an image has.
+pub fn print_refusal<W: Write>(out: &mut W, r: Refusal) -> io::Result<()>
+    ensures { OnOk result (Appends (W.contents out.old) (W.contents out.new) (refusal_line r)) }
+{
+    writeln!(out, "refused {} at {}", r.number, r.place)
 }
 
 // Prints the list of an image.
@@ -44,7 +62,7 @@ pub fn list<W: Write>(out: &mut W, image: &[u8]) -> io::Result<()>
             writeln!(out, "blocks {blocks} steps {steps} bytes {bytes}")?;
             print_lines(out, image, blocks)
         }
-        Err(r) => writeln!(out, "refused {} at {}", r.number, r.place),
+        Err(r) => print_refusal(out, r),
     }
 }
 

@@ -13,7 +13,7 @@ const STRETCH: usize = 64;
 
 // Free: it follows from the stretch, the proofs know it as `reach`. Bytes that have to be there to pass one: the last code may go on in three
 // more, and what a byte says depends on the next three.
-const REACH: usize = 70;
+pub const REACH: usize = 70;
 
 // Document 01: how much more a group is worth where one byte follows it in its code than where none does.
 const SECOND: usize = 127;

@@ -1,7 +1,7 @@
 // A walk over the steps of an accepted image, in order, by value and without a buffer. Each block is read in its own part of the payload: a
 // block of codes code by code, a bit row by words of which only the ones are met.
 //
-// A walk goes with the accepted image that it goes over. A move within the loaded word, or to a code of
+// A walk goes with the image that it goes over and its payload. A move within the loaded word, or to a code of
 // one byte, is what most moves are: `next` is small, so that it is made part of its caller's loop and the walk stays in registers there. All
 // other moves go by `turned`, which is handed what is left as a value of its own.
 
@@ -17,25 +17,41 @@ ghost use Rattle.image_walk.specs.Inside.Moves.{rest_of, Current, Met, bit_move,
 
 use row::{WORD_BITS, WORD_BYTES};
 
-// An accepted image with its payload, which is cut off once.
+// An image and its payload, which is lent beside it so that it is cut off once. Any two slices are one: that they have bytes, all slices say.
+// What a move has to know of them, `Stands` and `Left` say, which speak of the blocks from the walk's own on.
 #[derive(Clone, Copy)]
-pub struct Accepted<'a> {
+pub struct Source<'a> {
     pub image: &'a [u8],
     pub payload: &'a [u8],
-    ghost bytes: { Bytes image.now },
-    ghost taken: { Taken image.now },
-    ghost cut: { payload.now ≡ payload_in image.now },
+    ghost bytes: { Bytes payload.now },
+}
+
+impl<'a> Source<'a> {
+    // An image and a payload, whatever they are.
+    pub fn new(image: &'a [u8], payload: &'a [u8]) -> Source<'a>
+        ensures { (result.image.now ≡ image.now) × (result.payload.now ≡ payload.now) }
+    {
+        Source { image, payload }
+    }
+}
+
+// An accepted image with its own payload.
+#[derive(Clone, Copy)]
+pub struct Accepted<'a> {
+    pub source: Source<'a>,
+    ghost bytes: { Bytes source.image.now },
+    ghost taken: { Taken source.image.now },
+    ghost cut: { source.payload.now ≡ payload_in source.image.now },
 }
 
 impl<'a> Accepted<'a> {
     // An accepted image, to be walked over.
     pub fn new(image: &'a [u8]) -> Accepted<'a>
         requires { Taken image.now }
-        ensures { result.image.now ≡ image.now }
+        ensures { result.source.image.now ≡ image.now }
     {
         Accepted {
-            image,
-            payload: image_directory::payload(image),
+            source: Source::new(image, image_directory::payload(image)),
         }
     }
 }
@@ -140,7 +156,7 @@ fn inside(p: Rest, payload: &[u8]) -> Walk
 }
 
 // What is left, or the next block where nothing is left of the open one and there is another.
-fn current<'a>(p: Rest, source: Accepted<'a>) -> Rest
+fn current<'a>(p: Rest, source: Source<'a>) -> Rest
     requires { Left source.image.now source.payload.now p }
     ensures { Current source.entry.image.now source.entry.payload.now p result }
 {
@@ -162,7 +178,7 @@ fn current<'a>(p: Rest, source: Accepted<'a>) -> Rest
 }
 
 // The walk at the next step of what is left, or past the last step.
-pub fn turned<'a>(p: Rest, source: Accepted<'a>) -> Walk
+pub fn turned<'a>(p: Rest, source: Source<'a>) -> Walk
     requires { Left source.image.now source.payload.now p }
     ensures { Turned source.entry.image.now source.entry.payload.now p result }
 {
@@ -174,9 +190,9 @@ pub fn turned<'a>(p: Rest, source: Accepted<'a>) -> Walk
 }
 
 // The walk at the first step of an accepted image.
-pub fn first<'a>(source: Accepted<'a>) -> Walk
-    ensures { Stands source.entry.image.now source.entry.payload.now result
-        × (ahead source.entry.image.now source.entry.payload.now result ≡ steps_of source.entry.image.now) }
+pub fn first<'a>(accepted: Accepted<'a>) -> Walk
+    ensures { Stands accepted.entry.source.image.now accepted.entry.source.payload.now result
+        × (ahead accepted.entry.source.image.now accepted.entry.source.payload.now result ≡ steps_of accepted.entry.source.image.now) }
 {
     turned(
         Rest {
@@ -187,7 +203,7 @@ pub fn first<'a>(source: Accepted<'a>) -> Walk
             end: 0,
             block: 0,
         },
-        source,
+        accepted.source,
     )
 }
 
@@ -247,7 +263,7 @@ fn rest_of(w: Walk) -> Rest
 impl Walk {
     // The walk at the next step. The turned walk has a name of its own, or the compiler would keep the walk in memory on the way that most
     // moves go.
-    pub fn next<'a>(self, source: Accepted<'a>) -> Walk
+    pub fn next<'a>(self, source: Source<'a>) -> Walk
         requires { Stands source.image.now source.payload.now self × (self.step < no_step) }
         ensures { Follows source.entry.image.now source.entry.payload.now self result }
     {

@@ -16,7 +16,7 @@ ghost use Rattle.pair_dense.specs.Inside.Words.{word_of, steps_in};
 ghost use Rattle.pair_dense.specs.Inside.Taking.{Taking};
 ghost use Rattle.pair_dense.specs.Inside.Walks.{Together, Begins, Passes};
 
-use image_walk::{Accepted, Walk};
+use image_walk::{Accepted, Source, Walk};
 use pair_operation::Operation;
 use row::WORD_BITS;
 
@@ -88,7 +88,7 @@ fn put_window<'a>(
 
 // The two walks at their first steps.
 fn start<'a>(first: Accepted<'a>, second: Accepted<'a>) -> Walks
-    ensures { Begins first.entry.image.now first.entry.payload.now second.entry.image.now second.entry.payload.now result }
+    ensures { Begins first.entry.source.image.now first.entry.source.payload.now second.entry.source.image.now second.entry.source.payload.now result }
 {
     let a = image_walk::first(first);
     let b = image_walk::first(second);
@@ -104,8 +104,8 @@ fn lay_both<'a>(
     m: Walks,
     left: &mut [usize],
     right: &mut [usize],
-    first: Accepted<'a>,
-    second: Accepted<'a>,
+    first: Source<'a>,
+    second: Source<'a>,
 ) -> Walks
     requires together { Together first.image.now first.payload.now second.image.now second.payload.now m × (m.next < no_step) }
     requires left_value { (left.old ≡ words_from (length left.old) m.next []) × ((0 < length left.old) × Brief left.old) }
@@ -151,8 +151,8 @@ fn take_all<'a, const STORED: bool>(
     second: Accepted<'a>,
     steps: &mut [u32],
 ) -> usize
-    requires { IsTrue STORED → length (result_of op (steps_of first.image.now) (steps_of second.image.now)) ≤ length steps.old }
-    ensures { Taking STORED steps.old 0 (result_of op (steps_of first.entry.image.now) (steps_of second.entry.image.now)) steps.new result }
+    requires { IsTrue STORED → length (result_of op (steps_of first.source.image.now) (steps_of second.source.image.now)) ≤ length steps.old }
+    ensures { Taking STORED steps.old 0 (result_of op (steps_of first.entry.source.image.now) (steps_of second.entry.source.image.now)) steps.new result }
 {
     let end = rules::no_step();
     let mut m = start(first, second);
@@ -161,7 +161,7 @@ fn take_all<'a, const STORED: bool>(
         let mut left: [usize; WORDS] = [0; WORDS];
         let mut right: [usize; WORDS] = [0; WORDS];
         let from = m.next;
-        m = lay_both(m, &mut left, &mut right, first, second);
+        m = lay_both(m, &mut left, &mut right, first.source, second.source);
         n = take_window::<STORED>(op, from, &left, &right, steps, n);
     }
     n

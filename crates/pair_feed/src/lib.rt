@@ -12,7 +12,7 @@ ghost use Rattle.image_walk.specs.Walk.{ahead, Stands};
 ghost use Rattle.pair_feed.specs.Feed.{Fed};
 ghost use Rattle.pair_feed.specs.Inside.Growth.{Grown, among_codes};
 
-use image_walk::{Accepted, Walk};
+use image_walk::{Accepted, Source, Walk};
 
 // The next steps of an image, in a buffer: the numbers of the buffer from `at` to before `end`, and the walk at the step after them. Where no
 // step is left, the numbers are one past the largest step, which is above every step, so that who merges need not ask for the end at every
@@ -40,7 +40,7 @@ fn among(f: Feed, step: usize, at: usize, k: usize) -> Feed
 
 // Stores the steps of a walk among codes, two at a time, as long as codes of one byte or two follow and there is room.
 #[tactic(auto, using(crate::proofs::Coding::run_within))]
-fn run<'a>(f: Feed, steps: &mut [u32], source: Accepted<'a>) -> Feed
+fn run<'a>(f: Feed, steps: &mut [u32], source: Source<'a>) -> Feed
     requires stands { Stands source.image.now source.payload.now f.walk × ((f.walk.bits ≡ 0) × (f.walk.at < f.walk.end)) }
     requires steps_nonzero { (0 < length steps.old) × ((f.end ≤ length steps.old) × Brief steps.old) }
     ensures { Grown source.entry.image.now source.entry.payload.now f steps.old result steps.new }
@@ -80,7 +80,7 @@ fn run<'a>(f: Feed, steps: &mut [u32], source: Accepted<'a>) -> Feed
 }
 
 // The walk at the step of the code that it stands before.
-fn past_code<'a>(w: Walk, source: Accepted<'a>) -> Walk
+fn past_code<'a>(w: Walk, source: Source<'a>) -> Walk
     requires { Stands source.image.now source.payload.now w × ((w.bits ≡ 0) × (w.at < w.end)) }
     ensures { Stands source.entry.image.now source.entry.payload.now result
         × (ahead source.entry.image.now source.entry.payload.now w ≡ w.step ∷ ahead source.entry.image.now source.entry.payload.now result) }
@@ -95,7 +95,7 @@ fn past_code<'a>(w: Walk, source: Accepted<'a>) -> Walk
 }
 
 // The walk at the next step. Where it stands among codes, a run ended there, so that the code is a long one, or the last.
-fn past<'a>(w: Walk, source: Accepted<'a>) -> Walk
+fn past<'a>(w: Walk, source: Source<'a>) -> Walk
     requires { Stands source.image.now source.payload.now w × (w.step < no_step) }
     ensures { Stands source.entry.image.now source.entry.payload.now result
         × (ahead source.entry.image.now source.entry.payload.now w ≡ w.step ∷ ahead source.entry.image.now source.entry.payload.now result) }
@@ -109,7 +109,7 @@ fn past<'a>(w: Walk, source: Accepted<'a>) -> Walk
 }
 
 // Stores the walk's step, and the steps of the short codes that follow it.
-fn on<'a>(f: Feed, steps: &mut [u32], source: Accepted<'a>) -> Feed
+fn on<'a>(f: Feed, steps: &mut [u32], source: Source<'a>) -> Feed
     requires stands { Stands source.image.now source.payload.now f.walk × (f.walk.step < no_step) }
     requires end_in_bounds { (f.end < length steps.old) × Brief steps.old }
     ensures { Grown source.entry.image.now source.entry.payload.now f steps.old result steps.new × (f.end < result.end) }
@@ -142,7 +142,7 @@ fn fill_with_none(steps: &mut [u32])
 }
 
 // Reads the steps ahead of a walk into the buffer from its front on.
-fn refill<'a>(w: Walk, steps: &mut [u32], source: Accepted<'a>) -> Feed
+fn refill<'a>(w: Walk, steps: &mut [u32], source: Source<'a>) -> Feed
     requires stands { Stands source.image.now source.payload.now w }
     requires steps_nonzero { (0 < length steps.old) × Brief steps.old }
     ensures { Fed source.entry.image.now source.entry.payload.now result steps.new (ahead source.entry.image.now source.entry.payload.now w)
@@ -174,15 +174,16 @@ fn refill<'a>(w: Walk, steps: &mut [u32], source: Accepted<'a>) -> Feed
 }
 
 // A feed of the steps of an accepted image, from the first on.
-pub fn first<'a>(steps: &mut [u32], source: Accepted<'a>) -> Feed
+pub fn first<'a>(steps: &mut [u32], accepted: Accepted<'a>) -> Feed
     requires { (0 < length steps.old) × Brief steps.old }
-    ensures { Fed source.entry.image.now source.entry.payload.now result steps.new (steps_of source.entry.image.now) × (result.at < result.end) }
+    ensures { Fed accepted.entry.source.image.now accepted.entry.source.payload.now result steps.new (steps_of accepted.entry.source.image.now)
+        × (result.at < result.end) }
 {
-    refill(image_walk::first(source), steps, source)
+    refill(image_walk::first(accepted), steps, accepted.source)
 }
 
 // A feed that shows at least one number: the same, or read anew where all was taken.
-pub fn more<'a>(f: Feed, steps: &mut [u32], source: Accepted<'a>) -> Feed
+pub fn more<'a>(f: Feed, steps: &mut [u32], source: Source<'a>) -> Feed
     requires stands { Stands source.image.now source.payload.now f.walk × ((f.at ≤ f.end) × (f.end ≤ length steps.old)) }
     requires steps_nonzero { (0 < length steps.old) × Brief steps.old }
     ensures { ((xs : List ℕ) → Fed source.entry.image.now source.entry.payload.now f steps.old xs

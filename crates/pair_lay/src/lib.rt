@@ -15,7 +15,7 @@ ghost use Rattle.pair_lay.specs.Lays.{LaysWindow};
 ghost use Rattle.pair_lay.specs.Inside.Runs.{Opens, Ran};
 ghost use Rattle.pair_lay.specs.Inside.Fours.{at_once, Plain, Leading};
 
-use image_walk::{Accepted, Walk};
+use image_walk::{Source, Walk};
 use row::WORD_BITS;
 
 // Document 01: the values of a byte.
@@ -157,7 +157,7 @@ fn lay_run(w: Walk, from: usize, words: &mut [usize], payload: &[u8]) -> Walk
 }
 
 // The walk at the next step after a step among codes, by a code of two bytes or as any walk goes.
-fn next_code<'a>(w: Walk, source: Accepted<'a>) -> Walk
+fn next_code<'a>(w: Walk, source: Source<'a>) -> Walk
     requires { Stands source.image.now source.payload.now w × ((w.bits ≡ 0) × (w.step < no_step)) }
     ensures { Follows source.entry.image.now source.entry.payload.now w result }
 {
@@ -173,7 +173,7 @@ fn next_code<'a>(w: Walk, source: Accepted<'a>) -> Walk
 
 // Lays the step of a walk among codes and those of the codes after it, and moves past them. The walk mostly stands before a code of two
 // bytes: it is the end of a run.
-fn lay_codes<'a>(w: Walk, from: usize, words: &mut [usize], source: Accepted<'a>) -> Walk
+fn lay_codes<'a>(w: Walk, from: usize, words: &mut [usize], source: Source<'a>) -> Walk
     requires { Stands source.image.now source.payload.now w × (Within w from words.old × (w.bits ≡ 0)) }
     ensures { Lays source.entry.image.now source.entry.payload.now w from words.old words.new result }
 {
@@ -189,7 +189,7 @@ fn lay_codes<'a>(w: Walk, from: usize, words: &mut [usize], source: Accepted<'a>
 }
 
 // Lays what is loaded, as far as it falls into a window, and moves past it.
-fn lay_loaded<'a>(w: Walk, from: usize, words: &mut [usize], source: Accepted<'a>) -> Walk
+fn lay_loaded<'a>(w: Walk, from: usize, words: &mut [usize], source: Source<'a>) -> Walk
     requires { Stands source.image.now source.payload.now w × Within w from words.old }
     ensures { Lays source.entry.image.now source.entry.payload.now w from words.old words.new result }
 {
@@ -200,7 +200,7 @@ fn lay_loaded<'a>(w: Walk, from: usize, words: &mut [usize], source: Accepted<'a
 }
 
 // Lays the steps ahead that fall into a window, whose first bit stands for `from`, and gives the walk at the first step after it.
-pub fn lay_window<'a>(w: Walk, from: usize, words: &mut [usize], source: Accepted<'a>) -> Walk
+pub fn lay_window<'a>(w: Walk, from: usize, words: &mut [usize], source: Source<'a>) -> Walk
     requires stands { Stands source.image.now source.payload.now w × (from ≤ w.step) }
     requires words_value { (words.old ≡ words_from (length words.old) from []) × Brief words.old }
     ensures { LaysWindow source.entry.image.now source.entry.payload.now w from words.new result }

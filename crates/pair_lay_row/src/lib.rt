@@ -10,7 +10,7 @@ ghost use Rattle.image_walk.specs.Turns.{Readable};
 ghost use Rattle.pair_lay_row.specs.Lays.{Within, Lays};
 ghost use Rattle.pair_lay_row.specs.Inside.Rows.{word_rest, Cuts, Rows};
 
-use image_walk::{Accepted, Rest, Walk};
+use image_walk::{Rest, Source, Walk};
 use row::{WORD_BITS, WORD_BYTES};
 
 // What a walk in a row has left when all ones of its word are passed.
@@ -29,7 +29,7 @@ fn past_word(w: Walk) -> Rest
 }
 
 // Moves past the ones of the loaded word that lie before a bound, which falls into the word.
-fn past_below<'a>(w: Walk, bound: usize, source: Accepted<'a>) -> Walk
+fn past_below<'a>(w: Walk, bound: usize, source: Source<'a>) -> Walk
     requires { Stands source.image.now source.payload.now w × ((0 < w.bits) × ((w.step < bound) × (bound < w.low + word_bits))) }
     ensures { Cuts source.entry.image.now source.entry.payload.now w bound result }
 {
@@ -78,7 +78,7 @@ fn lay_words(p: Rest, from: usize, words: &mut [usize], payload: &[u8]) -> Rest
 
 // Lays what of the loaded word falls into a window, and the words after it, and moves past them. The lowest one goes to its own place,
 // which is never before the window.
-pub fn lay_word<'a>(w: Walk, from: usize, words: &mut [usize], source: Accepted<'a>) -> Walk
+pub fn lay_word<'a>(w: Walk, from: usize, words: &mut [usize], source: Source<'a>) -> Walk
     requires { Stands source.image.now source.payload.now w × (Within w from words.old × (0 < w.bits)) }
     ensures { Lays source.entry.image.now source.entry.payload.now w from words.old words.new result }
 {

@@ -14,7 +14,7 @@ ghost use Rattle.pair_thin.specs.Inside.Shown.{Merges};
 ghost use Rattle.pair_thin.specs.Inside.Round.{Small, Ready, to_come, Goes};
 ghost use Rattle.pair_thin.specs.Counts.{Counts};
 
-use image_walk::Accepted;
+use image_walk::{Accepted, Source};
 use pair_feed::Feed;
 use pair_operation::Operation;
 
@@ -95,9 +95,9 @@ fn start<'a>(
     second: Accepted<'a>,
 ) -> Sides
     requires { Small left.old × Small right.old }
-    ensures { Ready first.entry.image.now first.entry.payload.now second.entry.image.now second.entry.payload.now result left.new right.new
-        × ((to_come first.entry.image.now first.entry.payload.now result.left left.new ≡ steps_of first.entry.image.now)
-        × (to_come second.entry.image.now second.entry.payload.now result.right right.new ≡ steps_of second.entry.image.now)) }
+    ensures { Ready first.entry.source.image.now first.entry.source.payload.now second.entry.source.image.now second.entry.source.payload.now result left.new right.new
+        × ((to_come first.entry.source.image.now first.entry.source.payload.now result.left left.new ≡ steps_of first.entry.source.image.now)
+        × (to_come second.entry.source.image.now second.entry.source.payload.now result.right right.new ≡ steps_of second.entry.source.image.now)) }
 {
     let a = pair_feed::first(left, first);
     let b = pair_feed::first(right, second);
@@ -118,8 +118,8 @@ fn round<'a>(
     left: &mut [u32],
     right: &mut [u32],
     kept: &mut [u32],
-    first: Accepted<'a>,
-    second: Accepted<'a>,
+    first: Source<'a>,
+    second: Source<'a>,
 ) -> Sides
     requires ready { Ready first.image.now first.payload.now second.image.now second.payload.now m left.old right.old × (m.next < no_step) }
     requires small { (Small left.old × Small right.old) × (length left.old ≤ length kept.old) }
@@ -173,13 +173,13 @@ fn store_with<'a>(
     kept: &mut [u32],
 ) -> usize
     requires { (Small left.old × Small right.old) × (length left.old ≤ length kept.old) }
-    ensures { Counts op first.entry.image.now second.entry.image.now steps.old result steps.new }
+    ensures { Counts op first.entry.source.image.now second.entry.source.image.now steps.old result steps.new }
 {
     let end = rules::no_step();
     let mut m = start(left, right, first, second);
     let mut n: usize = 0;
     while m.next < end {
-        m = round(op, m, left, right, kept, first, second);
+        m = round(op, m, left, right, kept, first.source, second.source);
         let k = m.kept;
         put(&kept[..k], steps, n);
         n += k;

@@ -5,9 +5,9 @@ use Rattle.image_walk.proofs.first.Goals as goal
 
 pub turned-requires : goal.turned-requires
 turned-requires c =
-    (start_left c.args.source.image.now c.args.source.payload.now c.args.source.bytes c.args.source.taken c.args.source.cut).0
+    (start_left c.args.accepted.source.image.now c.args.accepted.source.payload.now c.args.accepted.bytes c.args.accepted.taken c.args.accepted.cut).0
 
 pub returns : goal.returns
 returns c =
-    let start = start_left c.args.source.image.now c.args.source.payload.now c.args.source.bytes c.args.source.taken c.args.source.cut in
+    let start = start_left c.args.accepted.source.image.now c.args.accepted.source.payload.now c.args.accepted.bytes c.args.accepted.taken c.args.accepted.cut in
     (c.turned.ensures.stands, c.turned.ensures.is ∙ start.1)

@@ -12,9 +12,9 @@ use Rattle.pair_dense.proofs.take_all.Given as goal
 
 abbrev pub invariant-loop-m : goal.invariant-loop-m
 invariant-loop-m g l =
-    let all = result_of l.op (steps_of l.first.image.now) (steps_of l.second.image.now) in
-    let rest = result_ahead l.op l.first.image.now l.first.payload.now l.second.image.now l.second.payload.now l.m in
-    Together l.first.image.now l.first.payload.now l.second.image.now l.second.payload.now l.m
+    let all = result_of l.op (steps_of l.first.source.image.now) (steps_of l.second.source.image.now) in
+    let rest = result_ahead l.op l.first.source.image.now l.first.source.payload.now l.second.source.image.now l.second.source.payload.now l.m in
+    Together l.first.source.image.now l.first.source.payload.now l.second.source.image.now l.second.source.payload.now l.m
     × Counting all l.n rest
     × (IsTrue (not (nat_eq g.row.STORED 0)) → Storing l.initial.steps 0 all l.steps l.n rest)
 

@@ -15,11 +15,11 @@ use Rattle.pair_thin.proofs.store_with.Goals as goal
 pub loop-m-init : goal.loop-m-init
 loop-m-init c = (
   Rounds_start c.args.op c.args.kept.now c.start-m.ensures refl refl,
-  keeping_start c.args.steps.now (result_of c.args.op (steps_of c.args.first.image.now) (steps_of c.args.second.image.now)) (sym (start_is c.args.op c.start-m.ensures)),
+  keeping_start c.args.steps.now (result_of c.args.op (steps_of c.args.first.source.image.now) (steps_of c.args.second.source.image.now)) (sym (start_is c.args.op c.start-m.ensures)),
 )
 
 pub overflow_add-n : goal.overflow_add-n
-overflow_add-n c = let n = rounds_counted c.round-m.ensures c.loop-m.n (result_of c.args.op (steps_of c.args.first.image.now) (steps_of c.args.second.image.now)) c.loop-m.invariant.1.counted in
+overflow_add-n c = let n = rounds_counted c.round-m.ensures c.loop-m.n (result_of c.args.op (steps_of c.args.first.source.image.now) (steps_of c.args.second.source.image.now)) c.loop-m.invariant.1.counted in
     omega (arith, n, c.loop-m.invariant.0.few, largest_coded)
 
 pub loop-m-preserved : goal.loop-m-preserved

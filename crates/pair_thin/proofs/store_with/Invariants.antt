@@ -9,8 +9,8 @@ use Rattle.pair_thin.proofs.store_with.Given as goal
 
 abbrev pub invariant-loop-m : goal.invariant-loop-m
 invariant-loop-m l =
-    Rounds l.op l.first.image.now l.first.payload.now l.second.image.now l.second.payload.now l.initial.left l.initial.right l.initial.kept l.m l.left l.right l.kept
-    × Keeping l.initial.steps (result_of l.op (steps_of l.first.image.now) (steps_of l.second.image.now)) l.steps l.n (result_to_come l.op l.first.image.now l.first.payload.now l.second.image.now l.second.payload.now l.m l.left l.right)
+    Rounds l.op l.first.source.image.now l.first.source.payload.now l.second.source.image.now l.second.source.payload.now l.initial.left l.initial.right l.initial.kept l.m l.left l.right l.kept
+    × Keeping l.initial.steps (result_of l.op (steps_of l.first.source.image.now) (steps_of l.second.source.image.now)) l.steps l.n (result_to_come l.op l.first.source.image.now l.first.source.payload.now l.second.source.image.now l.second.source.payload.now l.m l.left l.right)
 
 abbrev pub decreases-loop-m : goal.decreases-loop-m
-decreases-loop-m l = steps_to_come l.first.image.now l.first.payload.now l.second.image.now l.second.payload.now l.m l.left l.right
+decreases-loop-m l = steps_to_come l.first.source.image.now l.first.source.payload.now l.second.source.image.now l.second.source.payload.now l.m l.left l.right
